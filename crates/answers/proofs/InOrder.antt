@@ -1,0 +1,51 @@
+-- The law of the order of checks, once for all calls: a call says number n exactly when n's check fails and none before it does, and it
+-- answers exactly when none fails. Each way round is a law of its own. Assumes nothing.
+use Prim.Native.Nat.{ℕ, zero, suc, _<_}
+use mathlib.Core.Path.{_≡_, refl, sym, ap, ap₂, _∙_}
+use mathlib.Core.List.{List, [], _∷_}
+use mathlib.Core.Bool.{Bool, true, false}
+use mathlib.Core.Logic.{inl, inr, ⊎-elim}
+use native.Mathlib.Omega.{arith}
+use Rattle.answers.specs.declared.Refusal.{Refusal}
+use Rattle.answers.specs.Refusals.{meaning}
+use Rattle.answers.specs.Checks.{Check, firstOf, pick, Refuses, Passes}
+use Rattle.answers.proofs.OneToOne.{meaning-begins}
+
+pub refuses-says : (answer : List ℕ) (cs : List Check) (n : ℕ) (vs : List ℕ) → Refuses cs n vs → firstOf cs answer ≡ n ∷ vs
+refuses-says answer [] n vs r = absurd r
+refuses-says answer (c ∷ cs) n vs r =
+    ⊎-elim (λ h. rw (h .0) (ap₂ _∷_ (h .1) (h .2))) (λ h. rw (h .0) (refuses-says answer cs n vs (h .1))) r
+
+pub passes-says : (answer : List ℕ) (cs : List Check) → Passes cs → firstOf cs answer ≡ answer
+passes-says answer [] p = refl
+passes-says answer (c ∷ cs) p = rw (p .0) (passes-says answer cs (p .1))
+
+pub says-refuses : (a : List ℕ) (cs : List Check) (n : ℕ) (vs : List ℕ) → firstOf cs (0 ∷ a) ≡ suc n ∷ vs → Refuses cs (suc n) vs
+says-refuses a [] n vs e = let z : 0 ≡ suc n = cc in omega arith
+says-refuses a (c ∷ cs) n vs e = go (c .fails) refl e (says-refuses a cs n vs)
+  where
+    go : (b : Bool) → c .fails ≡ b → pick b (c .number ∷ c .values) (firstOf cs (0 ∷ a)) ≡ suc n ∷ vs
+        → (firstOf cs (0 ∷ a) ≡ suc n ∷ vs → Refuses cs (suc n) vs) → Refuses (c ∷ cs) (suc n) vs
+    go true t h rest = inl (t, cc, cc)
+    go false t h rest = inr (t, rest h)
+
+-- every number of the list is above 0
+abbrev pub Numbered : List Check → Type 0
+Numbered [] = Unit {0}
+Numbered (c ∷ cs) = (0 < c .number) × Numbered cs
+
+pub says-passes : (a a′ : List ℕ) (cs : List Check) → Numbered cs → firstOf cs (0 ∷ a) ≡ 0 ∷ a′ → Passes cs
+says-passes a a′ [] p e = tt
+says-passes a a′ (c ∷ cs) p e = go (c .fails) refl e (says-passes a a′ cs (p .1))
+  where
+    go : (b : Bool) → c .fails ≡ b → pick b (c .number ∷ c .values) (firstOf cs (0 ∷ a)) ≡ 0 ∷ a′
+        → (firstOf cs (0 ∷ a) ≡ 0 ∷ a′ → Passes cs) → Passes (c ∷ cs)
+    go true t h rest = let z : c .number ≡ 0 = cc in absurd (omega (arith, p .0))
+    go false t h rest = (t, rest h)
+
+-- so a refusal stands whatever the call would have answered
+pub refusal-stands : (a answer : List ℕ) (cs : List Check) (r : Refusal) → meaning r ≡ firstOf cs (0 ∷ a) → meaning r ≡ firstOf cs answer
+refusal-stands a answer cs r e =
+    let b = meaning-begins r in
+    let said : firstOf cs (0 ∷ a) ≡ suc (b .0) ∷ b .1 = sym e ∙ b .2 in
+    b .2 ∙ sym (refuses-says answer cs (suc (b .0)) (b .1) (says-refuses a cs (b .0) (b .1) said))

@@ -1,0 +1,32 @@
+-- The order of checks as data (document 01, "Order of checks"): a call's checks stand in a list, in the order in which it makes them,
+-- and the first that fails gives the refusal. An answer's meaning begins with 0 and a refusal's with its number. Assumes nothing.
+use Prim.Native.Nat.{ℕ, suc}
+use mathlib.Core.List.{List, [], _∷_}
+use mathlib.Core.Bool.{Bool, true, false}
+use mathlib.Core.Path.{_≡_}
+use mathlib.Core.Logic.{_⊎_}
+
+-- One check: the refusal number, the values named with it, and whether it is given, as the table's "given exactly when".
+pub record Check : Type 0 where
+  pub number : ℕ
+  pub values : List ℕ
+  pub fails : Bool
+
+abbrev pub pick : Bool → List ℕ → List ℕ → List ℕ
+pick true refused rest = refused
+pick false refused rest = rest
+
+-- what a call says: the refusal of the first check that fails, or else its answer
+abbrev pub firstOf : List Check → List ℕ → List ℕ
+firstOf [] answer = answer
+firstOf (c ∷ cs) answer = pick (c .fails) (c .number ∷ c .values) (firstOf cs answer)
+
+-- the check of number n, with these values, fails, and none before it does
+abbrev pub Refuses : List Check → ℕ → List ℕ → Type 0
+Refuses [] n vs = ⊥
+Refuses (c ∷ cs) n vs = ((c .fails ≡ true) × (c .number ≡ n) × (c .values ≡ vs)) ⊎ ((c .fails ≡ false) × Refuses cs n vs)
+
+-- no check fails
+abbrev pub Passes : List Check → Type 0
+Passes [] = Unit {0}
+Passes (c ∷ cs) = (c .fails ≡ false) × Passes cs

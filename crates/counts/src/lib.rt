@@ -1,0 +1,8 @@
+// The two numbers of a shell, as types of their own: a length is never taken for a radius (document 01, "Points and counts").
+// What is counted with them stands in specs/, with its laws in proofs/. No function is here.
+
+// The length l of a point: how many coordinates it has.
+pub struct Length(pub usize);
+
+// The radius k of a shell: what the magnitudes of a point sum to.
+pub struct Radius(pub usize);
