@@ -1,7 +1,7 @@
 -- Binomials, pattern counts and shape counts, law by law, for all whole numbers:
 --     D-zero, D-addition, D-small     D(0,l) = 1; binomial addition (eq. 17); 0 where s exceeds l
 --     S-none, S-addition, S-small     S(0,k) for k above 0; the same addition for shapes; 0 where s exceeds k
---     binomial-bound                  binomial(n,r) is at most 2^n
+--     binomial-bound, D-bound, S-bound     binomial(n,r) is at most 2^n, so D(s,l) is at most 2^l and S(s,k) at most 2^(k-1)
 -- Assumes nothing.
 use Prim.Native.Nat.{ℕ, zero, suc, _+_, _*_, _^_, _≤_, _<_}
 use mathlib.Core.Path.{_≡_, refl}
@@ -56,3 +56,12 @@ binomial-bound (suc n) (suc r) =
     let a : binomial n (suc r) ≤ 2 ^ n = binomial-bound n (suc r) in
     let b : binomial n r ≤ 2 ^ n = binomial-bound n r in
     omega (arith, pow-suc 2 n)
+
+pub D-bound : (s l : ℕ) → D s l ≤ 2 ^ l
+unfolding D
+D-bound s l = binomial-bound l s
+
+pub S-bound : (s k : ℕ) → S s (suc k) ≤ 2 ^ k
+unfolding S
+S-bound zero k = omega arith
+S-bound (suc s) k = binomial-bound k s

@@ -24,7 +24,7 @@ row-binomial zero (suc r) = refl
 row-binomial (suc n) (suc r) =
     neighbours-at (row n) r ∙ ap₂ _+_ (row-binomial n r) (row-binomial n (suc r)) ∙ add-comm (binomial n r) (binomial n (suc r))
 
-stored-binomial : (w i : ℕ) → stored w i ≡ binomial (i / w) (i % w)
+pub stored-binomial : (w i : ℕ) → stored w i ≡ binomial (i / w) (i % w)
 stored-binomial w zero = sym (ap₂ binomial (zero-div w) (zero-mod w) ∙ sym (row-binomial 0 0))
 stored-binomial w (suc i) = row-binomial (suc i / w) (suc i % w)
 

@@ -49,9 +49,9 @@ N-spread zero (suc k) = refl
 N-spread (suc l) zero = omega (arith, N-spread l zero, spread-none l (λ s. weight 0 (suc s)) (λ s. zero-mul (2 ^ suc s)))
 N-spread (suc l) (suc k) =
     let next : spread l (λ s. weight (suc k) (suc s)) ≡ spread l (λ s. weight k (suc s)) + (spread l (weight k) + spread l (weight k)) =
-      spread-cong l (λ s. weight (suc k) (suc s)) (λ s. weight k (suc s) + (weight k s + weight k s)) (weight-next k)
-      ∙ spread-add l (λ s. weight k (suc s)) (λ s. weight k s + weight k s)
-      ∙ ap (λ (x : ℕ). spread l (λ s. weight k (suc s)) + x) (spread-add l (weight k) (weight k)) in
+    spread-cong l (λ s. weight (suc k) (suc s)) (λ s. weight k (suc s) + (weight k s + weight k s)) (weight-next k)
+    ∙ spread-add l (λ s. weight k (suc s)) (λ s. weight k s + weight k s)
+    ∙ ap (λ (x : ℕ). spread l (λ s. weight k (suc s)) + x) (spread-add l (weight k) (weight k)) in
     omega (arith, N-spread (suc l) k, N-spread l (suc k), N-spread l k, next)
 
 -- f(0) + f(1) + .. + f(n)
@@ -82,9 +82,9 @@ spread-total (suc l) f zero h = omega arith
 spread-total (suc l) f (suc n) h =
     let up : ℕ → ℕ = λ s. f (suc s) in
     let both : total (λ s. binomial (suc l) (suc s) * up s) n ≡ total (λ s. binomial l (suc s) * up s) n + total (λ s. binomial l s * up s) n =
-      total-cong (λ s. binomial (suc l) (suc s) * up s) (λ s. binomial l (suc s) * up s + binomial l s * up s)
-        (λ s. add-mul (binomial l (suc s)) (binomial l s) (f (suc s))) n
-      ∙ total-add (λ s. binomial l (suc s) * up s) (λ s. binomial l s * up s) n in
+    total-cong (λ s. binomial (suc l) (suc s) * up s) (λ s. binomial l (suc s) * up s + binomial l s * up s)
+    (λ s. add-mul (binomial l (suc s)) (binomial l s) (f (suc s))) n
+    ∙ total-add (λ s. binomial l (suc s) * up s) (λ s. binomial l s * up s) n in
     omega (
       arith,
       total-first (λ s. binomial (suc l) s * f s) n,
@@ -114,7 +114,7 @@ unfolding rangeStart
 volume l k =
     let m = most l k in
     let cut : sumAfter (λ s. R s l k) 0 (m + (l - m)) ≡ sumAfter (λ s. R s l k) 0 m =
-      sum-cut (λ s. R s l k) 0 m (l - m) (λ i q. R-past l k i (omega arith)) in
+    sum-cut (λ s. R s l k) 0 m (l - m) (λ i q. R-past l k i (omega arith)) in
     let whole : m + (l - m) ≡ l = omega arith in
     rw sub-zero (N-total l k ∙ ap (λ (x : ℕ). R 0 l k + x) (rw whole at cut))
 

@@ -1,0 +1,61 @@
+// The shells and their counts (document 01, "Points and counts"): the call count, and the width of a total. The counts that the index
+// is made of stand in `inner`.
+pub mod inner;
+
+use answers::Refusal;
+use counts::Length;
+use counts::Radius;
+ghost use mathlib.Core.Path.{_≡_};
+ghost use mathlib.Core.List.{[], _∷_};
+ghost use Rattle.answers.specs.Checks.{firstOf};
+ghost use Rattle.counts.specs.Width as widths;
+ghost use Rattle.shell.specs.Shell.{shellChecks, shellMeaning, countMeaning, countSays};
+
+pub enum Shell {
+    Usable,
+    Unusable(Refusal),
+}
+
+pub enum Counted {
+    Points(u64),
+    Refused(Refusal),
+}
+
+// The call count: how many points a shell has.
+pub fn count(length: Length, radius: Radius) -> Counted
+    ensures { λ r. ⌜ countMeaning r ≡ countSays (length .0) (radius .0) ⌝ }
+{
+    match check_shell(length, radius) {
+        Shell::Usable => Counted::Points(inner::point_count(length, radius)),
+        Shell::Unusable(refusal) => Counted::Refused(refusal),
+    }
+}
+
+// The checks 1, 2 and 3, which count, index and point begin with.
+pub fn check_shell(length: Length, radius: Radius) -> Shell
+    ensures { λ r. ⌜ shellMeaning r ≡ firstOf (shellChecks (length .0) (radius .0)) (0 ∷ []) ⌝ }
+{
+    if length.0 < 1 {
+        return Shell::Unusable(Refusal::LengthOutside);
+    }
+    if 16 < length.0 {
+        return Shell::Unusable(Refusal::LengthOutside);
+    }
+    if 32 < radius.0 {
+        return Shell::Unusable(Refusal::RadiusAbove);
+    }
+    if inner::largest_radius(length) < radius.0 {
+        return Shell::Unusable(Refusal::ShellTooLarge);
+    }
+    Shell::Usable
+}
+
+// The width of a total: the least number of bits b with 2^b at least n.
+pub fn width(n: u64) -> u32
+    ensures { λ b. ⌜ b ≡ widths.width n ⌝ }
+{
+    if n <= 1 {
+        return 0;
+    }
+    64 - u64::leading_zeros(n - 1)
+}
