@@ -1,8 +1,9 @@
 -- The ranges of the product index, from s = m downward (eq. 26), for all lengths and radii:
 --     range-next, range-last     the start for s is the start for s+1 and that range's size; from m on it is 0
+--     range-down                 the same from s to s-1, as a descending loop goes
 --     range-multiple             O(s) is a multiple of 2^(s+1): below a range's start the signs' s bits, and one more, are 0
 --     start-bound, end-bound     a range ends within N
--- The first three hold whatever shape field the ranges have. Assumes nothing.
+-- All but the bounds hold whatever shape field the ranges have. Assumes nothing.
 use Prim.Native.Nat.{ℕ, zero, suc, _+_, _-_, _*_, _^_, _≤_, _<_, _∣_, min}
 use mathlib.Core.Path.{_≡_, refl, sym, ap, _∙_}
 use native.Mathlib.Omega.{arith}
@@ -25,6 +26,12 @@ module _ (F : ℕ → ℕ → ℕ) (l k : ℕ) where
   range-last s h =
       let none : most l k - s ≡ 0 = omega arith in
       rw none
+
+  pub range-down : (s : ℕ) → 0 < s → s ≤ most l k → rangeStart F (s - 1) l k ≡ rangeStart F s l k + rangeSize F s l k
+  range-down zero p h = omega arith
+  range-down (suc s) p h =
+      let less : suc s - 1 ≡ s = omega arith in
+      rw less (omega (arith, range-next s h))
 
   pub range-multiple : (s : ℕ) → 2 ^ suc s ∣ rangeStart F s l k
   unfolding rangeStart rangeSize B

@@ -118,9 +118,13 @@ volume l k =
     let whole : m + (l - m) ≡ l = omega arith in
     rw sub-zero (N-total l k ∙ ap (λ (x : ℕ). R 0 l k + x) (rw whole at cut))
 
--- eq. 14 and 25, as printed: at a radius above 0 the sum runs over s from 1 to m
-pub volume-from-1 : (l k : ℕ) → N l (suc k) ≡ sumAfter (λ s. R s l (suc k)) 0 (most l (suc k))
-unfolding rangeSize rangeStart
-volume-from-1 l k =
+-- eq. 14 and 25, as printed: at a radius above 0 the sum runs over s from 1 to m, and is what starts the range for s = 0
+pub volume-start : (l k : ℕ) → N l (suc k) ≡ O 0 l (suc k)
+unfolding rangeSize
+volume-start l k =
     let none : D 0 l * S 0 (suc k) * B 0 ≡ 0 = rw (S-none k, mul-zero (D 0 l), zero-mul (B 0)) in
-    omega (arith, rw sub-zero at (volume l (suc k)))
+    omega (arith, volume l (suc k))
+
+pub volume-from-1 : (l k : ℕ) → N l (suc k) ≡ sumAfter (λ s. R s l (suc k)) 0 (most l (suc k))
+unfolding rangeStart
+volume-from-1 l k = rw sub-zero at (volume-start l k)

@@ -1,34 +1,36 @@
+-- `shell::check_shell` says what the checks 1, 2 and 3 say: at each return the tests on the way are the checks up to there. Assumes nothing.
 use borrow.Author.Needs.{needs}
+use mathlib.Core.List.{[], _∷_}
+use native.Mathlib.Omega.{arith}
+use Rattle.shell.proofs.Usable.{below-says, above-says, radius-says, past-says, usable-says}
 use Rattle.shell.proofs.check_shell.Statement.{statement}
 use Rattle.shell.proofs.check_shell.Tie as tie
-use Rattle.shell.proofs.check_shell.Reads as reads
-use Rattle.shell.proofs.check_shell.Lts as lts
-use Rattle.shell.proofs.inner.largest_radius.Reads as largest-radius-reads
 
--- src/lib.rt:39:9
 returns : tie.Need-returns
-returns c = ?
+returns c = let a = c .before .before .args in below-says (a .length .0) (a .radius .0) (0 ∷ []) (c .if1 .taken)
 
--- src/lib.rt:42:9
 returns-2 : tie.Need-returns-2
-returns-2 c = ?
+returns-2 c =
+    let a = c .before .before .before .before .args in
+    above-says (a .length .0) (a .radius .0) (0 ∷ []) (c .if2 .taken)
 
--- src/lib.rt:45:9
 returns-3 : tie.Need-returns-3
-returns-3 c = ?
+returns-3 c =
+    let a = c .before .before .before .before .before .before .args in
+    radius-says (a .length .0) (a .radius .0) (0 ∷ []) (omega arith) (omega arith) (c .if3 .taken)
 
--- src/lib.rt:47:8
 largest-radius-requires : tie.Need-largest-radius-requires
 largest-radius-requires c κs = search needs
 
--- src/lib.rt:48:9
 returns-4 : tie.Need-returns-4
-returns-4 c = ?
+returns-4 c =
+    let a = c .before .before .before .before .before .before .before .before .before .args in
+    past-says (a .length .0) (a .radius .0) (0 ∷ []) (omega arith) (omega arith) (omega arith) (omega arith)
 
--- src/lib.rt:35:1
 returns-5 : tie.Need-returns-5
-returns-5 c = ?
+returns-5 c =
+    let a = c .before .before .before .before .before .before .before .before .before .args in
+    usable-says (a .length .0) (a .radius .0) (0 ∷ []) (omega arith) (omega arith) (omega arith) (omega arith)
 
 pub check-shell-spec : {M : Type 1} → statement M
-check-shell-spec =
-    tie.close (tie.spec returns returns-2 returns-3 largest-radius-requires returns-4 returns-5)
+check-shell-spec = tie.close (tie.spec returns returns-2 returns-3 largest-radius-requires returns-4 returns-5)

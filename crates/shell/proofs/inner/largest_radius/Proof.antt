@@ -1,95 +1,42 @@
+-- `shell::inner::largest_radius` is the stored number at the length: each arm is its entry, and no length from 1 to 16 is left for the last.
+-- Assumes nothing.
 use borrow.Author.Needs.{needs}
+use Prim.Native.Nat.{ℕ, zero, suc, _≤_, _<_}
+use mathlib.Core.Path.{_≡_}
+use native.Mathlib.Omega.{arith}
 use Rattle.shell.proofs.inner.largest_radius.Statement.{statement}
 use Rattle.shell.proofs.inner.largest_radius.Tie as tie
-use Rattle.shell.proofs.inner.largest_radius.Reads as reads
-use Rattle.shell.proofs.inner.largest_radius.Lts as lts
 
--- src/inner.rt:14:1
-returns : tie.Need-returns
-returns c = search needs
+-- l is none of 1 to n, as the last arm is told it
+abbrev NoneOf : ℕ → ℕ → Type 0
+NoneOf zero l = Unit {0}
+NoneOf (suc n) l = NoneOf n l × (l ≡ suc n → ⊥)
 
--- src/inner.rt:14:1
-returns-2 : tie.Need-returns-2
-returns-2 c = search needs
+past : (n l : ℕ) → NoneOf n l → 1 ≤ l → n < l
+past zero l h p = p
+past (suc n) l h p = omega (arith, past n l (h .0) p, h .1)
 
--- src/inner.rt:14:1
-returns-3 : tie.Need-returns-3
-returns-3 c = search needs
-
--- src/inner.rt:14:1
-returns-4 : tie.Need-returns-4
-returns-4 c = search needs
-
--- src/inner.rt:14:1
-returns-5 : tie.Need-returns-5
-returns-5 c = search needs
-
--- src/inner.rt:14:1
-returns-6 : tie.Need-returns-6
-returns-6 c = search needs
-
--- src/inner.rt:14:1
-returns-7 : tie.Need-returns-7
-returns-7 c = search needs
-
--- src/inner.rt:14:1
-returns-8 : tie.Need-returns-8
-returns-8 c = search needs
-
--- src/inner.rt:14:1
-returns-9 : tie.Need-returns-9
-returns-9 c = search needs
-
--- src/inner.rt:14:1
-returns-10 : tie.Need-returns-10
-returns-10 c = search needs
-
--- src/inner.rt:14:1
-returns-11 : tie.Need-returns-11
-returns-11 c = search needs
-
--- src/inner.rt:14:1
-returns-12 : tie.Need-returns-12
-returns-12 c = search needs
-
--- src/inner.rt:14:1
-returns-13 : tie.Need-returns-13
-returns-13 c = search needs
-
--- src/inner.rt:14:1
-returns-14 : tie.Need-returns-14
-returns-14 c = search needs
-
--- src/inner.rt:14:1
-returns-15 : tie.Need-returns-15
-returns-15 c = search needs
-
--- src/inner.rt:14:1
-returns-16 : tie.Need-returns-16
-returns-16 c = search needs
-
--- src/inner.rt:14:1
-returns-17 : tie.Need-returns-17
-returns-17 c = ?
+no-length : tie.Need-returns-17
+no-length c = absurd (omega (arith, past 16 (c .before .args .length .0) (c .match .rest) (omega arith)))
 
 pub largest-radius-spec : {M : Type 1} → statement M
 largest-radius-spec =
     tie.close
     (tie.spec
-    returns
-    returns-2
-    returns-3
-    returns-4
-    returns-5
-    returns-6
-    returns-7
-    returns-8
-    returns-9
-    returns-10
-    returns-11
-    returns-12
-    returns-13
-    returns-14
-    returns-15
-    returns-16
-    returns-17)
+    (λ c. search needs)
+    (λ c. search needs)
+    (λ c. search needs)
+    (λ c. search needs)
+    (λ c. search needs)
+    (λ c. search needs)
+    (λ c. search needs)
+    (λ c. search needs)
+    (λ c. search needs)
+    (λ c. search needs)
+    (λ c. search needs)
+    (λ c. search needs)
+    (λ c. search needs)
+    (λ c. search needs)
+    (λ c. search needs)
+    (λ c. search needs)
+    no-length)

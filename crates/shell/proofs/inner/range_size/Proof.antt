@@ -1,43 +1,48 @@
+-- `shell::inner::range_size` is R, the product of the three counts, none of which is large. Assumes nothing.
 use borrow.Author.Needs.{needs}
+use Prim.Native.Nat.{_*_, _^_, _≤_}
+use mathlib.Core.Path.{_≡_, ap₂, _∙_}
+use native.Mathlib.Omega.{arith}
+use Rattle.counts.specs.Counts.{D, S, B, rangeSize}
+use Rattle.shell.proofs.Sizes.{D-small-enough, S-small-enough, B-small-enough, two-fit, three-fit}
 use Rattle.shell.proofs.inner.range_size.Statement.{statement}
 use Rattle.shell.proofs.inner.range_size.Tie as tie
-use Rattle.shell.proofs.inner.range_size.Reads as reads
-use Rattle.shell.proofs.inner.range_size.Lts as lts
-use Rattle.patterns.proofs.inner.pattern_count.Reads as pattern-count-reads
-use Rattle.shapes.proofs.inner.shape_count.Reads as shape-count-reads
-use Rattle.shell.proofs.inner.sign_count.Reads as sign-count-reads
 
--- src/inner.rt:64:5
 pattern-count-requires : tie.Need-pattern-count-requires
 pattern-count-requires c κs = search needs
 
--- src/inner.rt:64:5
 cast-result : tie.Need-cast-result
 cast-result c = search needs
 
--- src/inner.rt:64:39
 shape-count-requires : tie.Need-shape-count-requires
 shape-count-requires c κs = search needs
 
--- src/inner.rt:64:39
 cast-result-2 : tie.Need-cast-result-2
 cast-result-2 c = search needs
 
--- src/inner.rt:64:5
 mul-result : tie.Need-mul-result
-mul-result c = ?
+mul-result c =
+    let a = c .before .before .args in
+    rw (c .before .pattern-count .ensures, c .shape-count .ensures)
+    (two-fit (D (a .s) (a .length .0)) (S (a .s) (a .radius .0))
+    (D-small-enough (a .s) (a .length .0) (omega arith))
+    (S-small-enough (a .s) (a .radius .0) (omega arith) (omega arith)))
 
--- src/inner.rt:64:71
 sign-count-requires : tie.Need-sign-count-requires
 sign-count-requires c κs = search needs
 
--- src/inner.rt:64:5
 mul-result-2 : tie.Need-mul-result-2
-mul-result-2 c = ?
+mul-result-2 c =
+    let a = c .before .before .before .args in
+    rw (c .before .before .pattern-count .ensures, c .before .shape-count .ensures, c .sign-count .ensures)
+    (three-fit (D (a .s) (a .length .0)) (S (a .s) (a .radius .0)) (B (a .s))
+    (D-small-enough (a .s) (a .length .0) (omega arith))
+    (S-small-enough (a .s) (a .radius .0) (omega arith) (omega arith))
+    (B-small-enough (a .s) (omega arith)))
 
--- src/inner.rt:60:1
 returns : tie.Need-returns
-returns c = ?
+unfolding rangeSize
+returns c = ap₂ _*_ (ap₂ _*_ (c .before .before .pattern-count .ensures) (c .before .shape-count .ensures)) (c .sign-count .ensures)
 
 pub range-size-spec : {M : Type 1} → statement M
 range-size-spec =

@@ -1,47 +1,69 @@
+-- `shell::inner::range_start` is O(s). The loop goes down from m: what is summed is the start of the range for i, and i stays from the smaller
+-- of s and m to m. Each range ends within N, so no sum is above 2^32. Assumes nothing.
+use borrow.Author.Needs.{needs}
+use Prim.Native.Nat.{ℕ, _+_, _-_, _^_, _≤_, _<_, min}
+use mathlib.Core.Path.{_≡_, refl, sym, ap, ap₂, _∙_}
+use native.Mathlib.Omega.{arith}
+use native.Mathlib.Decide.{decLe}
+use Rattle.counts.specs.Counts.{N, S, R, O, most}
+use Rattle.counts.proofs.Ranges.{range-down, range-last, end-bound}
 use Rattle.shell.proofs.inner.range_start.Statement.{statement}
 use Rattle.shell.proofs.inner.range_start.Tie as tie
-use Rattle.shell.proofs.inner.range_start.Reads as reads
-use Rattle.shell.proofs.inner.range_start.Lts as lts
-use Rattle.shell.proofs.inner.most.Reads as most-reads
-use Rattle.shell.proofs.inner.range_size.Reads as range-size-reads
+
+-- where the loop stops the start is that of s: at s itself, or at m where s is past it
+stopped : (l k s i : ℕ) → i ≤ s → i ≤ most l k → min s (most l k) ≤ i → O i l k ≡ O s l k
+stopped l k s i h p q = go (decLe s (most l k))
+  where
+    go : Dec (s ≤ most l k) → O i l k ≡ O s l k
+    go (yes r) = let same : i ≡ s = omega arith in ap (λ (x : ℕ). O x l k) same
+    go (no r) = range-last S l k i (omega arith) ∙ sym (range-last S l k s (omega arith))
 
 abbrev Inv-loop : tie.InvT-loop
-Inv-loop s length radius i₀ start₀ i start = ?
+Inv-loop s length radius i₀ start₀ i start =
+    (i ≤ most (length .0) (radius .0)) × (min s (most (length .0) (radius .0)) ≤ i) × (start ≡ O i (length .0) (radius .0))
 
 abbrev μ-loop : tie.MeasureT-loop
-μ-loop s length radius i₀ start₀ i start = ?
+μ-loop s length radius i₀ start₀ i start = i
 
--- src/inner.rt:72:9
 most-requires : tie.Need-most-requires Inv-loop μ-loop
-most-requires c κs = ?
+most-requires c κs = search needs
 
--- src/inner.rt:74:5
 loop-holds : tie.Need-loop-holds Inv-loop μ-loop
-loop-holds c = ?
+loop-holds c =
+    let a = c .before .args in
+    let m = c .most .ensures in
+    (omega arith, omega arith, sym (range-last S (a .length .0) (a .radius .0) (c .most .result) (omega arith)))
 
--- src/inner.rt:75:18
 range-size-requires : tie.Need-range-size-requires Inv-loop μ-loop
-range-size-requires c κs = ?
+range-size-requires c κs = omega arith
 
--- src/inner.rt:75:9
 add-start : tie.Need-add-start Inv-loop μ-loop
-add-start c = ?
+add-start c =
+    let a = c .before .before .before .before .args in
+    let i = c .before .before .loop .i in
+    record { fits = omega (arith, end-bound (a .length .0) (a .radius .0) i) }
 
--- src/inner.rt:76:9
 sub-i : tie.Need-sub-i Inv-loop μ-loop
-sub-i c = ?
+sub-i c = omega arith
 
--- src/inner.rt:74:5
 loop-less : tie.Need-loop-less Inv-loop μ-loop
-loop-less c = ?
+loop-less c = omega arith
 
--- src/inner.rt:74:5
 loop-again : tie.Need-loop-again Inv-loop μ-loop
-loop-again c = ?
+loop-again c =
+    let a = c .before .before .before .before .args in
+    let at = c .before .before .loop in
+    (
+      omega arith,
+      omega arith,
+      ap₂ _+_ (at .inv .2) (c .range-size .ensures) ∙ sym (range-down S (a .length .0) (a .radius .0) (at .i) (omega arith) (at .inv .0)),
+    )
 
--- src/inner.rt:68:1
 returns : tie.Need-returns Inv-loop μ-loop
-returns c = ?
+returns c =
+    let a = c .before .before .before .args in
+    let at = c .before .loop in
+    at .inv .2 ∙ stopped (a .length .0) (a .radius .0) (a .s) (at .i) (omega arith) (at .inv .0) (at .inv .1)
 
 pub range-start-spec : {M : Type 1} → statement M
 range-start-spec =

@@ -1,16 +1,19 @@
+-- `shell::inner::sign_count` is 2^s: below 64 the shift loses no bit. Assumes nothing.
 use borrow.Author.Needs.{needs}
+use mathlib.Core.Path.{_∙_}
+use native.Mathlib.Nat.{one-mul, mod-eq-of-lt}
+use lib.Pow.{pow-lt}
+use Prim.Native.Nat.{_^_}
+use Rattle.counts.specs.Counts.{B}
 use Rattle.shell.proofs.inner.sign_count.Statement.{statement}
 use Rattle.shell.proofs.inner.sign_count.Tie as tie
-use Rattle.shell.proofs.inner.sign_count.Reads as reads
-use Rattle.shell.proofs.inner.sign_count.Lts as lts
 
--- src/inner.rt:45:5
 shl-result : tie.Need-shl-result
 shl-result c = search needs
 
--- src/inner.rt:41:1
 returns : tie.Need-returns
-returns c = ?
+unfolding B
+returns c = rw one-mul (mod-eq-of-lt (pow-lt {j = 64} (c .pre)))
 
 pub sign-count-spec : {M : Type 1} → statement M
 sign-count-spec = tie.close (tie.spec shl-result returns)

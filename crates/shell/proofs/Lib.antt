@@ -1,0 +1,3 @@
+pub mod Largest
+pub mod Sizes
+pub mod Usable

@@ -1,0 +1,49 @@
+-- What the checks of a shell say, and what they tell: the refusals 1, 2 and 3 by the facts that a call finds, and that a shell which passes
+-- them is usable. Assumes nothing.
+use Prim.Native.Nat.{ℕ, _^_, _≤_, _<_}
+use mathlib.Core.Path.{_≡_, refl, sym}
+use mathlib.Core.List.{List, [], _∷_}
+use mathlib.Core.Bool.{Bool, true, false, _||_, false≢true}
+use native.Mathlib.Omega.{arith}
+use native.Mathlib.Nat.{le-of-lt, le-trans}
+use lib.Dec.{ltb, lit<, lit≤}
+use borrow.Author.Tests.{ltb-false, lt-ltb, le-ltb}
+use Rattle.answers.specs.Checks.{firstOf, Passes}
+use Rattle.answers.proofs.InOrder.{says-passes}
+use Rattle.counts.specs.Counts.{N}
+use Rattle.shell.specs.Largest.{largestRadius}
+use Rattle.shell.specs.Shell.{shellChecks, IsUsable}
+use Rattle.shell.proofs.Largest.{usable-up-to, unusable-past}
+
+module _ (l k : ℕ) (answer : List ℕ) where
+  pub below-says : l < 1 → 1 ∷ [] ≡ firstOf (shellChecks l k) answer
+  below-says h = rw (lt-ltb l 1 h)
+
+  pub above-says : 16 < l → 1 ∷ [] ≡ firstOf (shellChecks l k) answer
+  above-says h = rw (le-ltb l 1 (omega arith), lt-ltb 16 l h)
+
+  pub radius-says : 1 ≤ l → l ≤ 16 → 32 < k → 2 ∷ [] ≡ firstOf (shellChecks l k) answer
+  radius-says p q h = rw (le-ltb l 1 p, le-ltb 16 l q, lt-ltb 32 k h)
+
+  pub past-says : 1 ≤ l → l ≤ 16 → k ≤ 32 → largestRadius l < k → 3 ∷ [] ≡ firstOf (shellChecks l k) answer
+  past-says p q r h = rw (le-ltb l 1 p, le-ltb 16 l q, le-ltb 32 k r, lt-ltb (2 ^ 32) (N l k) (unusable-past l k p q r h))
+
+  pub usable-says : 1 ≤ l → l ≤ 16 → k ≤ 32 → k ≤ largestRadius l → answer ≡ firstOf (shellChecks l k) answer
+  usable-says p q r h = rw (le-ltb l 1 p, le-ltb 16 l q, le-ltb 32 k r, le-ltb (2 ^ 32) (N l k) (usable-up-to l k p q h))
+
+neither : (a b : Bool) → (a || b) ≡ false → (a ≡ false) × (b ≡ false)
+neither true b e = absurd (false≢true (sym e))
+neither false b e = (refl, e)
+
+pub passes-usable : (l k : ℕ) → Passes (shellChecks l k) → IsUsable l k
+passes-usable l k p =
+    let n = neither (ltb l 1) (ltb 16 l) (p .0) in
+    record {
+      length-from = ltb-false l 1 (n .0);
+      length-to = ltb-false 16 l (n .1);
+      radius-to = ltb-false 32 k (p .1 .0);
+      points-to = ltb-false (2 ^ 32) (N l k) (p .1 .1 .0)
+    }
+
+pub says-usable : (l k : ℕ) → 0 ∷ [] ≡ firstOf (shellChecks l k) (0 ∷ []) → IsUsable l k
+says-usable l k e = passes-usable l k (says-passes [] [] (shellChecks l k) (lit< tt, (lit< tt, (lit< tt, tt))) (sym e))
