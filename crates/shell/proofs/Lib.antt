@@ -1,3 +1,4 @@
 pub mod Largest
+pub mod OneToOne
 pub mod Sizes
 pub mod Usable

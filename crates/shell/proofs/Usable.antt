@@ -5,11 +5,10 @@ use mathlib.Core.Path.{_≡_, refl, sym}
 use mathlib.Core.List.{List, [], _∷_}
 use mathlib.Core.Bool.{Bool, true, false, _||_, false≢true}
 use native.Mathlib.Omega.{arith}
-use native.Mathlib.Nat.{le-of-lt, le-trans}
-use lib.Dec.{ltb, lit<, lit≤}
+use lib.Dec.{ltb, lit<}
 use borrow.Author.Tests.{ltb-false, lt-ltb, le-ltb}
 use Rattle.answers.specs.Checks.{firstOf, Passes}
-use Rattle.answers.proofs.InOrder.{says-passes}
+use Rattle.answers.proofs.InOrder.{says-passes, passes-says}
 use Rattle.counts.specs.Counts.{N}
 use Rattle.shell.specs.Largest.{largestRadius}
 use Rattle.shell.specs.Shell.{shellChecks, IsUsable}
@@ -42,8 +41,15 @@ passes-usable l k p =
       length-from = ltb-false l 1 (n .0);
       length-to = ltb-false 16 l (n .1);
       radius-to = ltb-false 32 k (p .1 .0);
-      points-to = ltb-false (2 ^ 32) (N l k) (p .1 .1 .0)
+      points-to = ltb-false (2 ^ 32) (N l k) (p .1 .1 .0);
     }
 
+-- the checks let the shell through: then all pass
+let-through : (l k : ℕ) → 0 ∷ [] ≡ firstOf (shellChecks l k) (0 ∷ []) → Passes (shellChecks l k)
+let-through l k e = says-passes [] [] (shellChecks l k) (lit< tt, (lit< tt, (lit< tt, tt))) (sym e)
+
 pub says-usable : (l k : ℕ) → 0 ∷ [] ≡ firstOf (shellChecks l k) (0 ∷ []) → IsUsable l k
-says-usable l k e = passes-usable l k (says-passes [] [] (shellChecks l k) (lit< tt, (lit< tt, (lit< tt, tt))) (sym e))
+says-usable l k e = passes-usable l k (let-through l k e)
+
+pub usable-answers : (l k : ℕ) (answer : List ℕ) → 0 ∷ [] ≡ firstOf (shellChecks l k) (0 ∷ []) → answer ≡ firstOf (shellChecks l k) answer
+usable-answers l k answer e = sym (passes-says answer (shellChecks l k) (let-through l k e))

@@ -1,34 +1,41 @@
+-- `shell::count` says what the call count is to say: a refusal of the checks as it stands, and else N. Assumes nothing.
 use borrow.Author.Needs.{needs}
+use Prim.Native.Nat.{ℕ}
+use mathlib.Core.Path.{_≡_, sym, ap, _∙_}
+use mathlib.Core.List.{List, [], _∷_}
+use Rattle.answers.proofs.InOrder.{refusal-stands}
+use Rattle.counts.specs.Counts.{N}
+use Rattle.shell.specs.Shell.{shellMeaning, shellChecks}
+use Rattle.shell.proofs.Usable.{says-usable, usable-answers}
 use Rattle.shell.proofs.count.Statement.{statement}
 use Rattle.shell.proofs.count.Tie as tie
-use Rattle.shell.proofs.count.Reads as reads
-use Rattle.shell.proofs.count.Lts as lts
-use Rattle.shell.proofs.check_shell.Reads as check-shell-reads
-use Rattle.shell.proofs.inner.point_count.Reads as point-count-reads
 
--- src/lib.rt:28:11
 check-shell-requires : tie.Need-check-shell-requires
 check-shell-requires c κs = search needs
 
--- src/lib.rt:29:42
 enum-told : tie.Need-enum-told
 enum-told c = search needs
 
--- src/lib.rt:29:42
 point-count-requires : tie.Need-point-count-requires
-point-count-requires c κs = ?
+point-count-requires c κs =
+    let a = c .before .before .before .args in
+    says-usable (a .length .0) (a .radius .0) (ap shellMeaning (sym (c .enum-told .given .1)) ∙ c .before .before .check-shell .ensures)
 
--- src/lib.rt:30:25
 enum-known-refusal : tie.Need-enum-known-refusal
 enum-known-refusal c = search needs
 
--- src/lib.rt:25:1
 returns : tie.Need-returns
-returns c = ?
+returns c =
+    let a = c .before .before .before .before .args in
+    ap (λ (n : ℕ). 0 ∷ n ∷ []) (c .point-count .ensures)
+    ∙ usable-answers (a .length .0) (a .radius .0) (0 ∷ N (a .length .0) (a .radius .0) ∷ [])
+    (ap shellMeaning (sym (c .before .enum-told .given .1)) ∙ c .before .before .before .check-shell .ensures)
 
--- src/lib.rt:25:1
 returns-2 : tie.Need-returns-2
-returns-2 c = ?
+returns-2 c =
+    let a = c .before .before .before .before .args in
+    refusal-stands [] (0 ∷ N (a .length .0) (a .radius .0) ∷ []) (shellChecks (a .length .0) (a .radius .0)) (c .before .refusal .given .0 .0)
+    (ap shellMeaning (sym (c .before .refusal .given .1)) ∙ c .before .before .before .check-shell .ensures)
 
 pub count-spec : {M : Type 1} → statement M
 count-spec =

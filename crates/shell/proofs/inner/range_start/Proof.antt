@@ -52,8 +52,7 @@ loop-less c = omega arith
 loop-again : tie.Need-loop-again Inv-loop μ-loop
 loop-again c =
     let a = c .before .before .before .before .args in
-    let at = c .before .before .loop in
-    (
+    let at = c .before .before .loop in (
       omega arith,
       omega arith,
       ap₂ _+_ (at .inv .2) (c .range-size .ensures) ∙ sym (range-down S (a .length .0) (a .radius .0) (at .i) (omega arith) (at .inv .0)),
