@@ -11,8 +11,15 @@ use Rattle.answers.specs.Checks.{firstOf, Passes}
 use Rattle.answers.proofs.InOrder.{says-passes, passes-says}
 use Rattle.counts.specs.Counts.{N}
 use Rattle.shell.specs.Largest.{largestRadius}
-use Rattle.shell.specs.Shell.{shellChecks, IsUsable}
+use Rattle.shell.specs.Shell.{tooMany, shellChecks, IsUsable}
 use Rattle.shell.proofs.Largest.{usable-up-to, unusable-past}
+
+-- refusal 3 is judged at 2^32 exactly
+past-limit : (n : ℕ) → 2 ^ 32 < n → tooMany n ≡ true
+past-limit n h = lt-ltb _ n (omega arith)
+
+within-limit : (n : ℕ) → n ≤ 2 ^ 32 → tooMany n ≡ false
+within-limit n h = le-ltb _ n (omega arith)
 
 module _ (l k : ℕ) (answer : List ℕ) where
   pub below-says : l < 1 → 1 ∷ [] ≡ firstOf (shellChecks l k) answer
@@ -25,10 +32,10 @@ module _ (l k : ℕ) (answer : List ℕ) where
   radius-says p q h = rw (le-ltb l 1 p, le-ltb 16 l q, lt-ltb 32 k h)
 
   pub past-says : 1 ≤ l → l ≤ 16 → k ≤ 32 → largestRadius l < k → 3 ∷ [] ≡ firstOf (shellChecks l k) answer
-  past-says p q r h = rw (le-ltb l 1 p, le-ltb 16 l q, le-ltb 32 k r, lt-ltb (2 ^ 32) (N l k) (unusable-past l k p q r h))
+  past-says p q r h = rw (le-ltb l 1 p, le-ltb 16 l q, le-ltb 32 k r, past-limit (N l k) (unusable-past l k p q r h))
 
   pub usable-says : 1 ≤ l → l ≤ 16 → k ≤ 32 → k ≤ largestRadius l → answer ≡ firstOf (shellChecks l k) answer
-  usable-says p q r h = rw (le-ltb l 1 p, le-ltb 16 l q, le-ltb 32 k r, le-ltb (2 ^ 32) (N l k) (usable-up-to l k p q h))
+  usable-says p q r h = rw (le-ltb l 1 p, le-ltb 16 l q, le-ltb 32 k r, within-limit (N l k) (usable-up-to l k p q h))
 
 neither : (a b : Bool) → (a || b) ≡ false → (a ≡ false) × (b ≡ false)
 neither true b e = absurd (false≢true (sym e))

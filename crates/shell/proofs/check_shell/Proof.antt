@@ -7,17 +7,17 @@ use Rattle.shell.proofs.check_shell.Statement.{statement}
 use Rattle.shell.proofs.check_shell.Tie as tie
 
 returns : tie.Need-returns
-returns c = let a = c .before .before .args in below-says (a .length .0) (a .radius .0) (0 ∷ []) (c .if1 .taken)
+returns c = let a = c .before .before .args in below-says (a .length .0) (a .radius .0) (0 ∷ []) (omega arith)
 
 returns-2 : tie.Need-returns-2
 returns-2 c =
     let a = c .before .before .before .before .args in
-    above-says (a .length .0) (a .radius .0) (0 ∷ []) (c .if2 .taken)
+    above-says (a .length .0) (a .radius .0) (0 ∷ []) (omega arith)
 
 returns-3 : tie.Need-returns-3
 returns-3 c =
     let a = c .before .before .before .before .before .before .args in
-    radius-says (a .length .0) (a .radius .0) (0 ∷ []) (omega arith) (omega arith) (c .if3 .taken)
+    radius-says (a .length .0) (a .radius .0) (0 ∷ []) (omega arith) (omega arith) (omega arith)
 
 largest-radius-requires : tie.Need-largest-radius-requires
 largest-radius-requires c κs = search needs

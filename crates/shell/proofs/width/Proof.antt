@@ -23,7 +23,7 @@ large n h q =
     bits ∙ sym (width-between n (top .0) low high)
 
 returns : tie.Need-returns
-returns c = small (c .before .args .n) (c .if1 .taken)
+returns c = small (c .before .args .n) (omega arith)
 
 sub-result : tie.Need-sub-result
 sub-result c = search needs
