@@ -1,12 +1,12 @@
 -- Answers that say the same are the same: what was said is read back, a refusal by `refusalOf` and any call's answer by `answerOf`. A
 -- refusal begins with a number above 0, and an answer with 0, so neither is taken for the other. Assumes nothing.
-use Prim.Native.Nat.{ℕ, zero, suc, _<_}
+use Prim.Native.Nat.{ℕ, zero, suc}
 use mathlib.Core.Path.{_≡_, refl, sym, ap, _∙_}
 use mathlib.Core.List.{List, [], _∷_}
 use lib.ListN.{getD}
 use Rattle.answers.specs.declared.Refusal.{Refusal}
 use Rattle.answers.specs.declared.Refusal.the-variants.{LengthOutside, RadiusAbove, ShellTooLarge, BufferLength, MagnitudeSum, IndexPastEnd, BadTable, NoSuchPlace, UnusableCoefficient, BadCell, BadCellAt, NoSuchCoordinate}
-use Rattle.answers.specs.Refusals.{meaning, numberOf}
+use Rattle.answers.specs.Refusals.{meaning}
 
 -- 12 names a place or none
 cellOf : List ℕ → Refusal

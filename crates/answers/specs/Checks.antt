@@ -1,6 +1,6 @@
 -- The order of checks as data (document 01, "Order of checks"): a call's checks stand in a list, in the order in which it makes them,
 -- and the first that fails gives the refusal. An answer's meaning begins with 0 and a refusal's with its number. Assumes nothing.
-use Prim.Native.Nat.{ℕ, suc}
+use Prim.Native.Nat.{ℕ}
 use mathlib.Core.List.{List, [], _∷_}
 use mathlib.Core.Bool.{Bool, true, false}
 use mathlib.Core.Path.{_≡_}

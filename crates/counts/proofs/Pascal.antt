@@ -3,7 +3,7 @@
 --     S-none, S-addition, S-small     S(0,k) for k above 0; the same addition for shapes; 0 where s exceeds k
 --     binomial-bound, D-bound, S-bound     binomial(n,r) is at most 2^n, so D(s,l) is at most 2^l and S(s,k) at most 2^(k-1)
 -- Assumes nothing.
-use Prim.Native.Nat.{ℕ, zero, suc, _+_, _*_, _^_, _≤_, _<_}
+use Prim.Native.Nat.{ℕ, zero, suc, _+_, _^_, _≤_, _<_}
 use mathlib.Core.Path.{_≡_, refl}
 use native.Mathlib.Nat.{pow-suc}
 use native.Mathlib.Omega.{arith}

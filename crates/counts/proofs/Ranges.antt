@@ -4,10 +4,10 @@
 --     range-multiple             O(s) is a multiple of 2^(s+1): below a range's start the signs' s bits, and one more, are 0
 --     start-bound, end-bound     a range ends within N
 -- All but the bounds hold whatever shape field the ranges have. Assumes nothing.
-use Prim.Native.Nat.{ℕ, zero, suc, _+_, _-_, _*_, _^_, _≤_, _<_, _∣_, min}
-use mathlib.Core.Path.{_≡_, refl, sym, ap, _∙_}
+use Prim.Native.Nat.{ℕ, zero, suc, _+_, _-_, _*_, _^_, _≤_, _<_, _∣_}
+use mathlib.Core.Path.{_≡_, sym, ap, _∙_}
 use native.Mathlib.Omega.{arith}
-use native.Mathlib.Decide.{decLt, decLe}
+use native.Mathlib.Decide.{decLt}
 use native.Mathlib.Nat.{dvd-trans, dvd-mul-left, dvd-mul-right}
 use lib.Pow.{pow-add}
 use Rattle.counts.specs.Counts.{N, D, S, B, most, sumAfter, rangeSize, rangeStart, R, O}

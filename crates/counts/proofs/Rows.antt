@@ -3,7 +3,7 @@
 use Prim.Native.Nat.{ℕ, zero, suc, _+_, _-_, _*_, _/_, _%_, _^_, _≤_, _<_}
 use mathlib.Core.Path.{_≡_, refl, sym, ap, ap₂, _∙_}
 use mathlib.Core.List.{List, [], _∷_}
-use native.Mathlib.Nat.{add-zero, add-comm, zero-mul, suc-mul, zero-div, zero-mod, div-add-mod', mod-lt, div-eq-of-lt, mod-eq-of-lt}
+use native.Mathlib.Nat.{add-zero, add-comm, zero-mul, suc-mul, zero-div, zero-mod, div-add-mod', mod-lt, div-eq-of-lt}
 use native.Mathlib.Omega.{arith}
 use lib.ListN.{getD}
 use lib.Arith.{digits-div, digits-mod}

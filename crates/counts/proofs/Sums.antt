@@ -5,7 +5,7 @@
 --     sum-multiple            a common divisor of the terms
 -- Assumes nothing.
 use Prim.Native.Nat.{ℕ, zero, suc, _+_, _<_, _∣_}
-use mathlib.Core.Path.{_≡_, refl, sym, ap, ap₂, _∙_}
+use mathlib.Core.Path.{_≡_, refl, ap, ap₂}
 use native.Mathlib.Nat.{add-zero, add-suc, suc-add, dvd-zero, dvd-add}
 use native.Mathlib.Omega.{arith}
 use Rattle.counts.specs.Counts.{sumAfter}

@@ -2,11 +2,11 @@
 -- point; above it that term is 0 and the sum runs from 1, as document 01 has it.
 -- The way: `spread l f` is the sum of binomial(l,s) x f(s), written by binomial addition alone; N is `spread` of S x 2^s by one induction,
 -- and `spread` is the sum by another. Assumes nothing.
-use Prim.Native.Nat.{ℕ, zero, suc, _+_, _-_, _*_, _^_, _≤_, _<_, min}
+use Prim.Native.Nat.{ℕ, zero, suc, _+_, _-_, _*_, _^_, _≤_, _<_}
 use mathlib.Core.Path.{_≡_, refl, sym, ap, ap₂, _∙_}
 use native.Mathlib.Omega.{arith}
 use native.Mathlib.Decide.{decLe}
-use native.Mathlib.Nat.{zero-mul, mul-zero, mul-assoc, mul-one, one-mul, add-mul, mul-add, add-zero, pow-suc, sub-zero, min-eq-left, min-eq-right}
+use native.Mathlib.Nat.{zero-mul, mul-zero, mul-assoc, one-mul, add-mul, mul-add, pow-suc, sub-zero, min-eq-left}
 use Rattle.counts.specs.Counts.{N, binomial, D, S, B, most, sumAfter, rangeSize, rangeStart, R, O}
 use Rattle.counts.proofs.Pascal.{D-small, S-none, S-addition, S-small}
 use Rattle.counts.proofs.Sums.{sum-cong, sum-add, sum-first, sum-shift, sum-none, sum-cut}

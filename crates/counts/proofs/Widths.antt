@@ -1,10 +1,10 @@
 -- The width of a total is the least number of bits that is enough (existence), and only one number is (uniqueness). For a total above 1,
 -- 2^(b-1) is below it and it is at most 2^b. Assumes nothing.
 use Prim.Native.Nat.{ℕ, zero, suc, _+_, _-_, _^_, _≤_, _<_}
-use mathlib.Core.Path.{_≡_, refl, sym, ap, _∙_}
+use mathlib.Core.Path.{_≡_, refl}
 use mathlib.Core.Bool.{Bool, true, false}
 use native.Mathlib.Omega.{arith}
-use native.Mathlib.Nat.{pow-suc, add-zero, add-suc, suc-add, zero-add, le-antisymm, le-trans}
+use native.Mathlib.Nat.{pow-suc, add-zero, add-suc, suc-add, zero-add, le-antisymm}
 use native.Mathlib.Decide.{decLt}
 use lib.Dec.{leb}
 use lib.Pow.{pow-pos, pow-mono}

@@ -19,8 +19,8 @@ binomial (suc n) (suc r) = binomial n (suc r) + binomial n r
 unfoldable pub D : ℕ → ℕ → ℕ
 D s l = binomial l s
 
--- the shape count S(s,k) = binomial(k-1,s-1) (eq. 19): in how many ways s positive whole numbers sum to k. No numbers sum to 0 in one
--- way, which goes on with the same law where the print has no number below 1.
+-- the shape count S(s,k) = binomial(k-1,s-1) (eq. 19): in how many ways s positive whole numbers sum to k. The print has no S at 0; no
+-- numbers at all sum to 0, in one way, and to nothing else.
 unfoldable pub S : ℕ → ℕ → ℕ
 S zero zero = 1
 S zero (suc k) = 0

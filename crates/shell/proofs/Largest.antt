@@ -2,10 +2,11 @@
 -- A shell of length 1 to 16 and radius 0 to 32 has at most 2^32 points exactly up to the largest radius. Assumes nothing.
 use Prim.Native.Nat.{ℕ, zero, suc, _^_, _≤_, _<_}
 use mathlib.Core.Path.{_≡_}
+use mathlib.Core.Logic.{_↔_}
 use mathlib.Core.Bool.{Bool, true, false, _&&_, _||_}
 use native.Mathlib.Omega.{arith}
 use native.Mathlib.Decide.{decLe}
-use native.Mathlib.Nat.{le-trans, lt-of-lt-of-le, not-le-of-lt}
+use native.Mathlib.Nat.{le-trans, lt-of-lt-of-le, lt-of-not-le, not-le-of-lt}
 use lib.Dec.{T, leb, ltb, leb→le, ltb→lt}
 use Rattle.counts.specs.Counts.{N}
 use Rattle.counts.proofs.Growth.{N-grows}
@@ -67,3 +68,10 @@ usable-up-to l k p q h = le-trans (grows l k (largestRadius l) p h) (at-largest 
 
 pub unusable-past : (l k : ℕ) → 1 ≤ l → l ≤ 16 → k ≤ 32 → largestRadius l < k → 2 ^ 32 < N l k
 unusable-past l k p q r h = lt-of-lt-of-le (past-largest l p q (lt-of-lt-of-le h r)) (grows l (suc (largestRadius l)) k p h)
+
+pub usable-exactly : (l k : ℕ) → 1 ≤ l → l ≤ 16 → k ≤ 32 → (N l k ≤ 2 ^ 32) ↔ (k ≤ largestRadius l)
+usable-exactly l k p q r = (λ h. go (decLe k (largestRadius l)) h, usable-up-to l k p q)
+  where
+    go : Dec (k ≤ largestRadius l) → N l k ≤ 2 ^ 32 → k ≤ largestRadius l
+    go (yes t) h = t
+    go (no t) h = absurd (not-le-of-lt (unusable-past l k p q r (lt-of-not-le t)) h)

@@ -4,7 +4,6 @@ use Prim.Native.Nat.{ℕ, _≤_, _^_}
 use mathlib.Core.List.{List, [], _∷_}
 use mathlib.Core.Bool.{Bool, _||_}
 use lib.Dec.{ltb}
-use lib.ListN.{getD}
 use Rattle.answers.specs.Refusals.{meaning}
 use Rattle.answers.specs.Checks.{Check, firstOf}
 use Rattle.counts.specs.Counts.{N}

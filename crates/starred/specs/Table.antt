@@ -1,6 +1,6 @@
 -- The table of single values about the definitions: document 01, "Proofs of single values", its starred cases, a line each, with the values
 -- that the document gives in its other parts. proofs/Proved.antt computes every line. Assumes nothing.
-use Prim.Native.Nat.{ℕ, _+_, _^_}
+use Prim.Native.Nat.{_+_, _^_}
 use mathlib.Core.Path.{_≡_}
 use mathlib.Core.Bool.{true, false}
 use mathlib.Core.List.{[], _∷_}

@@ -1,8 +1,8 @@
 -- `shell::count` says what the call count is to say: a refusal of the checks as it stands, and else N. Assumes nothing.
 use borrow.Author.Needs.{needs}
 use Prim.Native.Nat.{ℕ}
-use mathlib.Core.Path.{_≡_, sym, ap, _∙_}
-use mathlib.Core.List.{List, [], _∷_}
+use mathlib.Core.Path.{sym, ap, _∙_}
+use mathlib.Core.List.{[], _∷_}
 use Rattle.answers.proofs.InOrder.{refusal-stands}
 use Rattle.counts.specs.Counts.{N}
 use Rattle.shell.specs.Shell.{shellMeaning, shellChecks}

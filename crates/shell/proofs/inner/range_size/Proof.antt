@@ -1,7 +1,7 @@
 -- `shell::inner::range_size` is R, the product of the three counts, none of which is large. Assumes nothing.
 use borrow.Author.Needs.{needs}
-use Prim.Native.Nat.{_*_, _^_, _≤_}
-use mathlib.Core.Path.{_≡_, ap₂, _∙_}
+use Prim.Native.Nat.{_*_}
+use mathlib.Core.Path.{ap₂}
 use native.Mathlib.Omega.{arith}
 use Rattle.counts.specs.Counts.{D, S, B, rangeSize}
 use Rattle.shell.proofs.Sizes.{D-small-enough, S-small-enough, B-small-enough, two-fit, three-fit}

@@ -1,11 +1,11 @@
 -- `shell::inner::range_start` is O(s). The loop goes down from m: what is summed is the start of the range for i, and i stays from the smaller
 -- of s and m to m. Each range ends within N, so no sum is above 2^32. Assumes nothing.
 use borrow.Author.Needs.{needs}
-use Prim.Native.Nat.{ℕ, _+_, _-_, _^_, _≤_, _<_, min}
-use mathlib.Core.Path.{_≡_, refl, sym, ap, ap₂, _∙_}
+use Prim.Native.Nat.{ℕ, _+_, _≤_, min}
+use mathlib.Core.Path.{_≡_, sym, ap, ap₂, _∙_}
 use native.Mathlib.Omega.{arith}
 use native.Mathlib.Decide.{decLe}
-use Rattle.counts.specs.Counts.{N, S, R, O, most}
+use Rattle.counts.specs.Counts.{S, O, most}
 use Rattle.counts.proofs.Ranges.{range-down, range-last, end-bound}
 use Rattle.shell.proofs.inner.range_start.Statement.{statement}
 use Rattle.shell.proofs.inner.range_start.Tie as tie

@@ -1,9 +1,7 @@
 -- `shell::inner::sign_count` is 2^s: below 64 the shift loses no bit. Assumes nothing.
 use borrow.Author.Needs.{needs}
-use mathlib.Core.Path.{_∙_}
 use native.Mathlib.Nat.{one-mul, mod-eq-of-lt}
 use lib.Pow.{pow-lt}
-use Prim.Native.Nat.{_^_}
 use Rattle.counts.specs.Counts.{B}
 use Rattle.shell.proofs.inner.sign_count.Statement.{statement}
 use Rattle.shell.proofs.inner.sign_count.Tie as tie
