@@ -1,4 +1,4 @@
-// The stored shape counts. These are no calls: each has a `requires`, which its callers meet.
+// The stored shape counts. This is no call: what it requires, each caller is proved to meet.
 mod table;
 
 use counts::Radius;

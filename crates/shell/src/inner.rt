@@ -1,4 +1,4 @@
-// The counts that the product index is made of. These are no calls: each has a `requires`, which its callers meet.
+// The counts that the product index is made of. These are no calls: what they require, each caller is proved to meet.
 use counts::Length;
 use counts::Radius;
 use patterns::inner::pattern_count;
