@@ -4,17 +4,29 @@ ghost use mathlib.Core.Path.{_≡_};
 ghost use Rattle.answers.specs.Refusals.{numberOf};
 
 pub enum Refusal {
+    // 1: length outside 1 to 16
     LengthOutside,
+    // 2: radius above 32
     RadiusAbove,
+    // 3: N above 2^32
     ShellTooLarge,
+    // 4: a lent buffer has the wrong length
     BufferLength,
+    // 5: magnitudes don't sum to k
     MagnitudeSum,
+    // 6: index N or more
     IndexPastEnd,
+    // 7: bad pairing table, with the first bad row
     BadTable { row: usize },
+    // 8: place not in the table
     NoSuchPlace,
+    // 11: unusable coefficient, with the first coordinate at fault
     UnusableCoefficient { coordinate: usize },
+    // 12: state byte above 2, or a held record with another place number, at the place that the call looks at
     BadCell,
+    // 12 as the tally gives it, with the lowest such place
     BadCellAt { place: usize },
+    // 13: coordinate number l or more
     NoSuchCoordinate,
 }
 

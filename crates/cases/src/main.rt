@@ -1,5 +1,5 @@
 // Runs the cases of document 01, "Proofs of single values", through the calls, and writes what each call answered, a line a case. Its file
-// `stdout` holds the document's answers.
+// `stdout` holds what they are to answer: the document's values, and for the counts of shells what another program worked out.
 mod shells;
 mod text;
 

@@ -1,6 +1,7 @@
--- Binomials, pattern counts and shape counts, law by law, for all whole numbers:
+-- Binomials, pattern counts, shape counts and sign counts, law by law, for all whole numbers:
 --     D-zero, D-addition, D-small     D(0,l) = 1; binomial addition (eq. 17); 0 where s exceeds l
 --     S-none, S-addition, S-small     S(0,k) for k above 0; the same addition for shapes; 0 where s exceeds k
+--     B-zero, B-next                  one sign of no coordinates; twice as many with one coordinate more
 --     binomial-bound, D-bound, S-bound     binomial(n,r) is at most 2^n, so D(s,l) is at most 2^l and S(s,k) at most 2^(k-1)
 -- Assumes nothing.
 use Prim.Native.Nat.{ℕ, zero, suc, _+_, _^_, _≤_, _<_}
@@ -8,7 +9,7 @@ use mathlib.Core.Path.{_≡_, refl}
 use native.Mathlib.Nat.{pow-suc}
 use native.Mathlib.Omega.{arith}
 use lib.Pow.{pow-pos}
-use Rattle.counts.specs.Counts.{binomial, D, S}
+use Rattle.counts.specs.Counts.{binomial, D, S, B}
 
 pub D-zero : (l : ℕ) → D 0 l ≡ 1
 unfolding D binomial
@@ -47,6 +48,14 @@ unfolding S
 S-small zero k h = omega arith
 S-small (suc s) zero h = refl
 S-small (suc s) (suc k) h = binomial-small k s (omega arith)
+
+pub B-zero : B 0 ≡ 1
+unfolding B
+B-zero = refl
+
+pub B-next : (s : ℕ) → B (suc s) ≡ B s + B s
+unfolding B
+B-next s = omega (arith, pow-suc 2 s)
 
 pub binomial-bound : (n r : ℕ) → binomial n r ≤ 2 ^ n
 unfolding binomial

@@ -2,13 +2,13 @@
 -- point; above it that term is 0 and the sum runs from 1, as document 01 has it.
 -- The way: `spread l f` is the sum of binomial(l,s) x f(s), written by binomial addition alone; N is `spread` of S x 2^s by one induction,
 -- and `spread` is the sum by another. Assumes nothing.
-use Prim.Native.Nat.{ℕ, zero, suc, _+_, _-_, _*_, _^_, _≤_, _<_}
+use Prim.Native.Nat.{ℕ, zero, suc, _+_, _-_, _*_, _≤_, _<_}
 use mathlib.Core.Path.{_≡_, refl, sym, ap, ap₂, _∙_}
 use native.Mathlib.Omega.{arith}
 use native.Mathlib.Decide.{decLe}
-use native.Mathlib.Nat.{zero-mul, mul-zero, mul-assoc, one-mul, add-mul, mul-add, pow-suc, sub-zero, min-eq-left}
+use native.Mathlib.Nat.{zero-mul, mul-zero, mul-assoc, one-mul, add-mul, mul-add, sub-zero, min-eq-left}
 use Rattle.counts.specs.Counts.{N, binomial, D, S, B, most, sumAfter, rangeSize, rangeStart, R, O}
-use Rattle.counts.proofs.Pascal.{D-small, S-none, S-addition, S-small}
+use Rattle.counts.proofs.Pascal.{D-small, S-none, S-addition, S-small, B-zero, B-next}
 use Rattle.counts.proofs.Sums.{sum-cong, sum-add, sum-first, sum-shift, sum-none, sum-cut}
 
 spread : ℕ → (ℕ → ℕ) → ℕ
@@ -35,18 +35,16 @@ weight : ℕ → ℕ → ℕ
 weight k s = S s k * B s
 
 weight-next : (k s : ℕ) → weight (suc k) (suc s) ≡ weight k (suc s) + (weight k s + weight k s)
-unfolding weight B
+unfolding weight
 weight-next k s =
-    let a = S (suc s) k in
-    let b = S s k in
-    let twice : 2 ^ suc s ≡ 2 ^ s + 2 ^ s = omega (arith, pow-suc 2 s) in
-    rw (S-addition s k, add-mul) (ap (λ (x : ℕ). a * 2 ^ suc s + x) (ap (λ (x : ℕ). b * x) twice ∙ mul-add b (2 ^ s) (2 ^ s)))
+    rw (S-addition s k, add-mul)
+    (ap (λ (x : ℕ). S (suc s) k * B (suc s) + x) (ap (λ (x : ℕ). S s k * x) (B-next s) ∙ mul-add (S s k) (B s) (B s)))
 
 N-spread : (l k : ℕ) → N l k ≡ spread l (weight k)
-unfolding N spread weight S B
-N-spread zero zero = refl
-N-spread zero (suc k) = refl
-N-spread (suc l) zero = omega (arith, N-spread l zero, spread-none l (λ s. weight 0 (suc s)) (λ s. zero-mul (2 ^ suc s)))
+unfolding N spread weight S
+N-spread zero zero = sym (one-mul (B 0) ∙ B-zero)
+N-spread zero (suc k) = sym (zero-mul (B 0))
+N-spread (suc l) zero = omega (arith, N-spread l zero, spread-none l (λ s. weight 0 (suc s)) (λ s. zero-mul (B (suc s))))
 N-spread (suc l) (suc k) =
     let next : spread l (λ s. weight (suc k) (suc s)) ≡ spread l (λ s. weight k (suc s)) + (spread l (weight k) + spread l (weight k)) =
     spread-cong l (λ s. weight (suc k) (suc s)) (λ s. weight k (suc s) + (weight k s + weight k s)) (weight-next k)
@@ -116,7 +114,8 @@ volume l k =
     let cut : sumAfter (λ s. R s l k) 0 (m + (l - m)) ≡ sumAfter (λ s. R s l k) 0 m =
     sum-cut (λ s. R s l k) 0 m (l - m) (λ i q. R-past l k i (omega arith)) in
     let whole : m + (l - m) ≡ l = omega arith in
-    rw sub-zero (N-total l k ∙ ap (λ (x : ℕ). R 0 l k + x) (rw whole at cut))
+    let start : sumAfter (λ s. R s l k) 0 (m - 0) ≡ sumAfter (λ s. R s l k) 0 m = ap (sumAfter (λ s. R s l k) 0) (sub-zero m) in
+    N-total l k ∙ ap (λ (x : ℕ). R 0 l k + x) ((rw whole at cut) ∙ sym start)
 
 -- eq. 14 and 25, as printed: at a radius above 0 the sum runs over s from 1 to m, and is what starts the range for s = 0
 pub volume-start : (l k : ℕ) → N l (suc k) ≡ O 0 l (suc k)

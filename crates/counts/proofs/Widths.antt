@@ -11,6 +11,11 @@ use lib.Pow.{pow-pos, pow-mono}
 use borrow.Author.Tests.{leb-true, leb-false}
 use Rattle.counts.specs.Width.{width, bitsFrom, IsWidth}
 
+-- for a total of 1 it is 0, as document 01 says by itself
+pub width-of-1 : width 1 ≡ 0
+unfolding width bitsFrom
+width-of-1 = refl
+
 below-power : (n : ℕ) → n < 2 ^ n
 below-power zero = pow-pos 0
 below-power (suc n) = omega (arith, below-power n, pow-suc 2 n)

@@ -1,13 +1,14 @@
 -- The stored largest radii are right: one test over the 16 lengths, which antt computes, and the law that it gives with the growth of N.
 -- A shell of length 1 to 16 and radius 0 to 32 has at most 2^32 points exactly up to the largest radius. Assumes nothing.
 use Prim.Native.Nat.{ℕ, zero, suc, _^_, _≤_, _<_}
-use mathlib.Core.Path.{_≡_}
-use mathlib.Core.Logic.{_↔_}
-use mathlib.Core.Bool.{Bool, true, false, _&&_, _||_}
+use mathlib.Core.Path.{_≡_, refl}
+use mathlib.Core.Logic.{_↔_, Or·elim}
+use mathlib.Core.Bool.{Bool, true, _&&_, _||_, So-prop, and-eq-true-iff, or-eq-true-iff}
 use native.Mathlib.Omega.{arith}
 use native.Mathlib.Decide.{decLe}
 use native.Mathlib.Nat.{le-trans, lt-of-lt-of-le, lt-of-not-le, not-le-of-lt}
-use lib.Dec.{T, leb, ltb, leb→le, ltb→lt}
+use lib.Dec.{leb, ltb}
+use borrow.Author.Tests.{leb-true, ltb-true}
 use Rattle.counts.specs.Counts.{N}
 use Rattle.counts.proofs.Growth.{N-grows}
 use Rattle.shell.specs.Largest.{largestRadius}
@@ -20,44 +21,37 @@ upTo : ℕ → Bool
 upTo zero = true
 upTo (suc l) = right (suc l) && upTo l
 
-all-right : T (upTo 16)
+all-right : upTo 16 ≡ true
 unfolding upTo right N
-all-right = tt
+all-right = refl
 
-first-of : (a b : Bool) → T (a && b) → T a
-first-of true b t = tt
-first-of false b t = t
-
-second-of : (a b : Bool) → T (a && b) → T b
-second-of true b t = t
-second-of false b t = absurd t
-
-one-of : (a b : Bool) → T (a || b) → (T a → ⊥) → T b
-one-of true b t h = absurd (h tt)
-one-of false b t h = t
-
-right-at : (n l : ℕ) → T (upTo n) → 1 ≤ l → l ≤ n → T (right l)
+right-at : (n l : ℕ) → upTo n ≡ true → 1 ≤ l → l ≤ n → right l ≡ true
 unfolding upTo
-right-at zero l t p q = absurd (omega arith)
-right-at (suc n) l t p q = go (decLe l n) (λ h. right-at n l (second-of (right (suc n)) (upTo n) t) p h)
+right-at zero l e p q = absurd (omega arith)
+right-at (suc n) l e p q = go (decLe l n) (λ h. right-at n l (and-eq-true-iff (right (suc n)) (upTo n) .0 e .1) p h)
   where
-    go : Dec (l ≤ n) → (l ≤ n → T (right l)) → T (right l)
+    go : Dec (l ≤ n) → (l ≤ n → right l ≡ true) → right l ≡ true
     go (yes h) rest = rest h
-    go (no h) rest = let same : l ≡ suc n = omega arith in rw same (first-of (right (suc n)) (upTo n) t)
+    go (no h) rest = let same : l ≡ suc n = omega arith in rw same (and-eq-true-iff (right (suc n)) (upTo n) .0 e .0)
 
 -- what the test says at a length from 1 to 16
 at-largest : (l : ℕ) → 1 ≤ l → l ≤ 16 → N l (largestRadius l) ≤ 2 ^ 32
 unfolding right
 at-largest l p q =
     let top = largestRadius l in
-    leb→le (N l top) (2 ^ 32) (first-of (leb (N l top) (2 ^ 32)) (leb 32 top || ltb (2 ^ 32) (N l (suc top))) (right-at 16 l all-right p q))
+    let within = leb (N l top) (2 ^ 32) in
+    let past = leb 32 top || ltb (2 ^ 32) (N l (suc top)) in
+    leb-true (N l top) (2 ^ 32) (and-eq-true-iff within past .0 (right-at 16 l all-right p q) .0)
 
 past-largest : (l : ℕ) → 1 ≤ l → l ≤ 16 → largestRadius l < 32 → 2 ^ 32 < N l (suc (largestRadius l))
 unfolding right
 past-largest l p q h =
     let top = largestRadius l in
-    let either = second-of (leb (N l top) (2 ^ 32)) (leb 32 top || ltb (2 ^ 32) (N l (suc top))) (right-at 16 l all-right p q) in
-    ltb→lt (2 ^ 32) (N l (suc top)) (one-of (leb 32 top) (ltb (2 ^ 32) (N l (suc top))) either (λ t. not-le-of-lt h (leb→le 32 top t)))
+    let within = leb (N l top) (2 ^ 32) in
+    let last = leb 32 top in
+    let next = ltb (2 ^ 32) (N l (suc top)) in
+    let either = or-eq-true-iff last next .0 (and-eq-true-iff within (last || next) .0 (right-at 16 l all-right p q) .1) in
+    ltb-true (2 ^ 32) (N l (suc top)) (Or·elim (So-prop next) either (λ t. absurd (not-le-of-lt h (leb-true 32 top t))) (λ t. t))
 
 grows : (l j k : ℕ) → 1 ≤ l → j ≤ k → N l j ≤ N l k
 grows zero j k p h = absurd (omega arith)
