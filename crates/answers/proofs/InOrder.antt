@@ -1,14 +1,14 @@
 -- The law of the order of checks, once for all calls: a call says number n exactly when n's check fails and none before it does, and it
--- answers exactly when none fails. Each way round is a law of its own. Assumes nothing.
+-- answers exactly when none fails. Each way round is a law of its own. A call that refuses leaves a lent buffer as it was. Assumes nothing.
 use Prim.Native.Nat.{ℕ, suc, _<_}
 use mathlib.Core.Path.{_≡_, refl, sym, ap₂, _∙_}
-use mathlib.Core.List.{List, [], _∷_}
+use mathlib.Core.List.{List, [], _∷_, _++_}
 use mathlib.Core.Bool.{Bool, true, false}
 use mathlib.Core.Logic.{inl, inr, ⊎-elim}
 use native.Mathlib.Omega.{arith}
 use Rattle.answers.specs.declared.Refusal.{Refusal}
 use Rattle.answers.specs.Refusals.{meaning}
-use Rattle.answers.specs.Checks.{Check, firstOf, pick, Refuses, Passes}
+use Rattle.answers.specs.Checks.{Check, firstOf, leaves, pick, Refuses, Passes}
 use Rattle.answers.proofs.OneToOne.{meaning-begins}
 
 pub refuses-says : (answer : List ℕ) (cs : List Check) (n : ℕ) (vs : List ℕ) → Refuses cs n vs → firstOf cs answer ≡ n ∷ vs
@@ -29,6 +29,15 @@ says-refuses a (c ∷ cs) n vs e = go (c .fails) refl e (says-refuses a cs n vs)
     go true t h rest = inl (t, cc, cc)
     go false t h rest = inr (t, rest h)
 
+pub refuses-leaves : {A : Type 0} (made held : A) (cs : List Check) (n : ℕ) (vs : List ℕ) → Refuses cs n vs → leaves cs made held ≡ held
+refuses-leaves made held [] n vs r = absurd r
+refuses-leaves made held (c ∷ cs) n vs r =
+    ⊎-elim (λ h. rw (h .0)) (λ h. rw (h .0) (refuses-leaves made held cs n vs (h .1))) r
+
+pub passes-leaves : {A : Type 0} (made held : A) (cs : List Check) → Passes cs → leaves cs made held ≡ made
+passes-leaves made held [] p = refl
+passes-leaves made held (c ∷ cs) p = rw (p .0) (passes-leaves made held cs (p .1))
+
 -- every number of the list is above 0
 abbrev pub Numbered : List Check → Type 0
 Numbered [] = Unit {0}
@@ -43,9 +52,41 @@ says-passes a a′ (c ∷ cs) p e = go (c .fails) refl e (says-passes a a′ cs 
     go true t h rest = let z : c .number ≡ 0 = cc in absurd (omega (arith, p .0))
     go false t h rest = (t, rest h)
 
--- so a refusal stands whatever the call would have answered
+-- a refusal is one of the list's
+pub refusal-refuses : (a : List ℕ) (cs : List Check) (r : Refusal) → meaning r ≡ firstOf cs (0 ∷ a)
+    → (n : ℕ) × (vs : List ℕ) × (meaning r ≡ suc n ∷ vs) × Refuses cs (suc n) vs
+refusal-refuses a cs r e =
+    let b = meaning-begins r in
+    (b .0, b .1, b .2, says-refuses a cs (b .0) (b .1) (sym e ∙ b .2))
+
+-- so it stands whatever the call would have answered
 pub refusal-stands : (a answer : List ℕ) (cs : List Check) (r : Refusal) → meaning r ≡ firstOf cs (0 ∷ a) → meaning r ≡ firstOf cs answer
 refusal-stands a answer cs r e =
-    let b = meaning-begins r in
-    let said : firstOf cs (0 ∷ a) ≡ suc (b .0) ∷ b .1 = sym e ∙ b .2 in
-    b .2 ∙ sym (refuses-says answer cs (suc (b .0)) (b .1) (says-refuses a cs (b .0) (b .1) said))
+    let b = refusal-refuses a cs r e in
+    b .2 ∙ sym (refuses-says answer cs (suc (b .0)) (b .1) (b .3))
+
+-- Checks that others go before: cs before ds.
+first-refuse : (cs ds : List Check) (n : ℕ) (vs : List ℕ) → Refuses cs n vs → Refuses (cs ++ ds) n vs
+first-refuse [] ds n vs r = absurd r
+first-refuse (c ∷ cs) ds n vs r = ⊎-elim (λ h. inl h) (λ h. inr (h .0, first-refuse cs ds n vs (h .1))) r
+
+-- a refusal of the first stands, and leaves a lent buffer as it was
+pub refused-says : (a answer : List ℕ) (cs ds : List Check) (r : Refusal) → meaning r ≡ firstOf cs (0 ∷ a) → meaning r ≡ firstOf (cs ++ ds) answer
+refused-says a answer cs ds r e =
+    let b = refusal-refuses a cs r e in
+    b .2 ∙ sym (refuses-says answer (cs ++ ds) (suc (b .0)) (b .1) (first-refuse cs ds (suc (b .0)) (b .1) (b .3)))
+
+pub refused-leaves : {A : Type 0} (made held : A) (a : List ℕ) (cs ds : List Check) (r : Refusal) → meaning r ≡ firstOf cs (0 ∷ a)
+    → held ≡ leaves (cs ++ ds) made held
+refused-leaves made held a cs ds r e =
+    let b = refusal-refuses a cs r e in
+    sym (refuses-leaves made held (cs ++ ds) (suc (b .0)) (b .1) (first-refuse cs ds (suc (b .0)) (b .1) (b .3)))
+
+-- where the first pass, the others decide
+pub passed-says : (answer : List ℕ) (cs ds : List Check) → Passes cs → firstOf (cs ++ ds) answer ≡ firstOf ds answer
+passed-says answer [] ds p = refl
+passed-says answer (c ∷ cs) ds p = rw (p .0) (passed-says answer cs ds (p .1))
+
+pub passed-leaves : {A : Type 0} (made held : A) (cs ds : List Check) → Passes cs → leaves (cs ++ ds) made held ≡ leaves ds made held
+passed-leaves made held [] ds p = refl
+passed-leaves made held (c ∷ cs) ds p = rw (p .0) (passed-leaves made held cs ds (p .1))

@@ -12,7 +12,7 @@ pub record Check : Type 0 where
   pub values : List ℕ
   pub fails : Bool
 
-abbrev pub pick : Bool → List ℕ → List ℕ → List ℕ
+abbrev pub pick : {A : Type 0} → Bool → A → A → A
 pick true refused rest = refused
 pick false refused rest = rest
 
@@ -20,6 +20,11 @@ pick false refused rest = rest
 abbrev pub firstOf : List Check → List ℕ → List ℕ
 firstOf [] answer = answer
 firstOf (c ∷ cs) answer = pick (c .fails) (c .number ∷ c .values) (firstOf cs answer)
+
+-- what a lent buffer holds afterwards: what it held, if a check fails, or else what the call makes of it
+abbrev pub leaves : {A : Type 0} → List Check → A → A → A
+leaves [] made held = made
+leaves (c ∷ cs) made held = pick (c .fails) held (leaves cs made held)
 
 -- the check of number n, with these values, fails, and none before it does
 abbrev pub Refuses : List Check → ℕ → List ℕ → Type 0

@@ -52,7 +52,7 @@ passes-usable l k p =
     }
 
 -- the checks let the shell through: then all pass
-let-through : (l k : ℕ) → 0 ∷ [] ≡ firstOf (shellChecks l k) (0 ∷ []) → Passes (shellChecks l k)
+pub let-through : (l k : ℕ) → 0 ∷ [] ≡ firstOf (shellChecks l k) (0 ∷ []) → Passes (shellChecks l k)
 let-through l k e = says-passes [] [] (shellChecks l k) (lit< tt, (lit< tt, (lit< tt, tt))) (sym e)
 
 pub says-usable : (l k : ℕ) → 0 ∷ [] ≡ firstOf (shellChecks l k) (0 ∷ []) → IsUsable l k

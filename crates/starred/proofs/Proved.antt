@@ -1,15 +1,33 @@
 -- Every line of the table of single values holds by computation. Assumes nothing.
 use mathlib.Core.Path.{refl}
-use Rattle.counts.specs.Counts.{N}
+use Rattle.counts.specs.Counts.{N, binomial, D, S, B, sumAfter, rangeSize, rangeStart}
 use Rattle.counts.specs.Width.{width, bitsFrom}
+use Rattle.enumeration.specs.Product.{patternIndex, shapeOffset, shapeIndex, signIndex, weigh, productIndex}
+use Rattle.enumeration.specs.Reading.{rangeFrom, rangeOf, patternOf, firstMagnitude, shapeLeft, shapeOf, signsOf, pointFrom, pointIn, productPoint}
 use Rattle.starred.specs.Table.{Table}
 
 pub proved : Table
-unfolding N width bitsFrom
+unfolding N binomial D S B sumAfter rangeSize rangeStart width bitsFrom patternIndex shapeOffset shapeIndex signIndex weigh productIndex rangeFrom rangeOf patternOf firstMagnitude shapeLeft shapeOf signsOf pointFrom pointIn productPoint
 proved =
     record {
+      star-index-0 = refl;
+      star-index-5 = refl;
+      star-index-11 = refl;
+      star-index-12 = refl;
+      star-index-17 = refl;
+      star-point-18 = refl;
+      buffer-kept = refl;
+      star-index-2-3-0 = refl;
+      star-index-2-3-5 = refl;
+      star-index-2-3-11 = refl;
+      star-index-1-5 = refl;
+      star-bit-1 = refl;
+      star-point-7 = refl;
+      lowest = refl;
       star-count-4-0 = refl;
       star-width-4-0 = refl;
+      index-4-0 = refl;
+      point-4-0 = refl;
       count-2-3 = refl;
       count-3-2 = refl;
       says-16-12 = refl;

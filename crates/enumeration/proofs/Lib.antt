@@ -1,0 +1,10 @@
+pub mod Patterns
+pub mod Shapes
+pub mod SignBits
+pub mod RangeOf
+pub mod Spread
+pub mod Parts
+pub mod Product
+pub mod Flips
+pub mod Steps
+pub mod Example

@@ -1,0 +1,175 @@
+-- Shapes and their indices, for all numbers of magnitudes and sums:
+--     first-1, first-more          how the first magnitude is found, and what number of a shape is left
+--     first-read, first-back       its offset and what is left make up the number; and it is found again from them
+--     shape-at-least, last-read    no more magnitudes than their sum; the last one is all that is left
+--     shape-read                   the n-th shape has s magnitudes, all above 0, that sum to k, and index n
+--     shape-below, shape-back      a shape's index is below S(s,k), and that shape is read back from it
+-- Assumes nothing.
+use Prim.Native.Nat.{ℕ, zero, suc, _+_, _-_, _≤_, _<_}
+use mathlib.Core.Path.{_≡_, refl, ap, _∙_}
+use mathlib.Core.List.{List, [], _∷_}
+use native.Mathlib.Omega.{arith}
+use native.Mathlib.Decide.{decLt, le-ind}
+use native.Mathlib.Nat.{le-refl, zero-add, suc-add}
+use lib.ListN.{length}
+use borrow.Author.Tests.{lt-ltb, le-ltb}
+use Rattle.counts.specs.Counts.{S}
+use Rattle.counts.proofs.Pascal.{S-none, S-addition, S-small}
+use Rattle.enumeration.specs.Point.{sumOf}
+use Rattle.enumeration.specs.Product.{shapeOffset, shapeIndex}
+use Rattle.enumeration.specs.Reading.{firstMagnitude, shapeLeft, shapeOf}
+
+pub S-start : S 0 0 ≡ 1
+unfolding S
+S-start = refl
+
+-- there are no fewer shapes of a greater sum
+pub S-grows : (s j k : ℕ) → j ≤ k → S (suc s) j ≤ S (suc s) k
+S-grows s j k h =
+    le-ind (λ (m : ℕ). S (suc s) j ≤ S (suc s) m) (le-refl (S (suc s) j)) (λ m q e. omega (arith, e, S-addition s m)) k h
+
+pub first-1 : (s k n : ℕ) → n < S s k → (firstMagnitude s (suc k) n ≡ 1) × (shapeLeft s (suc k) n ≡ n)
+unfolding firstMagnitude shapeLeft
+first-1 s k n h = (rw (lt-ltb n (S s k) h, firstMagnitude), rw (lt-ltb n (S s k) h, shapeLeft))
+
+pub first-more : (s k n : ℕ) → S s k ≤ n
+    → (firstMagnitude s (suc k) n ≡ suc (firstMagnitude s k (n - S s k))) × (shapeLeft s (suc k) n ≡ shapeLeft s k (n - S s k))
+unfolding firstMagnitude shapeLeft
+first-more s k n h = (rw (le-ltb n (S s k) h, firstMagnitude), rw (le-ltb n (S s k) h, shapeLeft))
+
+-- i is the first magnitude of the n-th shape of s+1 magnitudes that sum to k, and `left` the number of the shape that is left
+pub record IsFirst (s k n i left : ℕ) : Type 0 where
+  pub from-1 : 0 < i
+  pub to-sum : i ≤ k
+  pub left-below : left < S s (k - i)
+  pub offset-and-left : shapeOffset (suc s) k i + left ≡ n
+
+is-1 : (s k n : ℕ) → n < S s k → IsFirst s (suc k) n 1 n
+unfolding shapeOffset
+is-1 s k n h =
+    let rest : suc k - 1 ≡ k = omega arith in
+    let same : suc k - 1 + 1 ≡ suc k = omega arith in
+    record { from-1 = omega arith; to-sum = omega arith; left-below = rw rest h; offset-and-left = rw same (omega arith) }
+
+is-more : (s k n i left : ℕ) → S s k ≤ n → IsFirst s k (n - S s k) i left → IsFirst s (suc k) n (suc i) left
+unfolding shapeOffset
+is-more s k n i left h r =
+    let rest : suc k - suc i ≡ k - i = omega arith in
+    let grown : S (suc s) (k - i + 1) ≤ S (suc s) k = S-grows s (k - i + 1) k (omega (arith, r .from-1, r .to-sum)) in
+    record {
+      from-1 = omega arith;
+      to-sum = omega (arith, r .to-sum);
+      left-below = rw rest (r .left-below);
+      offset-and-left = rw rest (omega (arith, r .offset-and-left, S-addition s k));
+    }
+
+pub first-read : (s k n : ℕ) → n < S (suc s) k → IsFirst s k n (firstMagnitude s k n) (shapeLeft s k n)
+first-read s zero n h = absurd (omega (arith, S-small (suc s) 0 (omega arith)))
+first-read s (suc k) n h = go (decLt n (S s k)) (first-read s k (n - S s k))
+  where
+    go : Dec (n < S s k)
+        → (n - S s k < S (suc s) k → IsFirst s k (n - S s k) (firstMagnitude s k (n - S s k)) (shapeLeft s k (n - S s k)))
+        → IsFirst s (suc k) n (firstMagnitude s (suc k) n) (shapeLeft s (suc k) n)
+    go (yes t) rest = let f = first-1 s k n t in rw (f .0, f .1) (is-1 s k n t)
+    go (no t) rest =
+        let past : S s k ≤ n = omega arith in
+        let f = first-more s k n past in
+        rw (f .0, f .1)
+        (is-more s k n (firstMagnitude s k (n - S s k)) (shapeLeft s k (n - S s k)) past (rest (omega (arith, S-addition s k))))
+
+-- there is no shape of more magnitudes than they sum to
+pub shape-at-least : (s k n : ℕ) → n < S s k → s ≤ k
+shape-at-least s k n h = go (decLt k s)
+  where
+    go : Dec (k < s) → s ≤ k
+    go (yes t) = absurd (omega (arith, S-small s k t))
+    go (no t) = omega arith
+
+-- the last magnitude is all that is left to sum to
+pub last-read : (k n : ℕ) → n < S 1 k → (firstMagnitude 0 k n ≡ k) × (shapeLeft 0 k n ≡ 0)
+last-read k n h = go (k - firstMagnitude 0 k n) refl (first-read 0 k n h)
+  where
+    go : (j : ℕ) → k - firstMagnitude 0 k n ≡ j → IsFirst 0 k n (firstMagnitude 0 k n) (shapeLeft 0 k n)
+        → (firstMagnitude 0 k n ≡ k) × (shapeLeft 0 k n ≡ 0)
+    go zero e f =
+        let below : shapeLeft 0 k n < S 0 0 = rw e at (f .left-below) in
+        (omega (arith, f .to-sum), omega (arith, S-start))
+    go (suc j) e f =
+        let below : shapeLeft 0 k n < S 0 (suc j) = rw e at (f .left-below) in
+        absurd (omega (arith, S-none j))
+
+-- the first magnitude is i+1 and j is what is left to sum to
+pub first-back : (s j i n : ℕ) → n < S s j
+    → (firstMagnitude s (suc (i + j)) (S (suc s) (suc (i + j)) - S (suc s) (suc j) + n) ≡ suc i)
+    × (shapeLeft s (suc (i + j)) (S (suc s) (suc (i + j)) - S (suc s) (suc j) + n) ≡ n)
+first-back s j zero n h =
+    let none : S (suc s) (suc j) - S (suc s) (suc j) + n ≡ n = omega arith in
+    rw (zero-add j, none) (first-1 s j n h)
+first-back s j (suc i) n h =
+    let k = suc (i + j) in
+    let grown : S (suc s) (suc j) ≤ S (suc s) k = S-grows s (suc j) k (omega arith) in
+    let all = S (suc s) (suc k) - S (suc s) (suc j) + n in
+    let rest : all - S s k ≡ S (suc s) k - S (suc s) (suc j) + n = omega (arith, S-addition s k) in
+    let f = first-more s k all (omega (arith, S-addition s k)) in
+    let b = first-back s j i n h in
+    rw (suc-add i j)
+    (f .0 ∙ ap (λ (m : ℕ). suc (firstMagnitude s k m)) rest ∙ ap suc (b .0), f .1 ∙ ap (shapeLeft s k) rest ∙ b .1)
+
+-- all magnitudes are above 0
+abbrev pub Positive : List ℕ → Type 0
+Positive [] = Unit {0}
+Positive (i ∷ is) = (0 < i) × Positive is
+
+-- the n-th of the shapes of s magnitudes that sum to k
+pub record IsShape (s k n : ℕ) (is : List ℕ) : Type 0 where
+  pub of-length : length is ≡ s
+  pub of-sum : sumOf is ≡ k
+  pub positive : Positive is
+  pub of-index : shapeIndex is ≡ n
+
+none-left : (k n : ℕ) → n < S 0 k → IsShape 0 k n []
+unfolding shapeIndex
+none-left zero n h = record { of-length = refl; of-sum = refl; positive = tt; of-index = omega (arith, S-start) }
+none-left (suc k) n h = absurd (omega (arith, S-none k))
+
+with-first : (s k n i left : ℕ) (is : List ℕ) → IsFirst s k n i left → IsShape s (k - i) left is → IsShape (suc s) k n (i ∷ is)
+unfolding shapeIndex
+with-first s k n i left is f r =
+    let whole : i + sumOf is ≡ k = omega (arith, r .of-sum, f .to-sum) in
+    record {
+      of-length = ap suc (r .of-length);
+      of-sum = whole;
+      positive = (f .from-1, r .positive);
+      of-index = rw (whole, r .of-length, r .of-index) (f .offset-and-left);
+    }
+
+pub shape-read : (s k n : ℕ) → n < S s k → IsShape s k n (shapeOf s k n)
+unfolding shapeOf
+shape-read zero k n h = none-left k n h
+shape-read (suc s) k n h =
+    let i = firstMagnitude s k n in
+    let left = shapeLeft s k n in
+    let f = first-read s k n h in
+    with-first s k n i left (shapeOf s (k - i) left) f (shape-read s (k - i) left (f .left-below))
+
+pub shape-below : (is : List ℕ) → Positive is → shapeIndex is < S (length is) (sumOf is)
+unfolding shapeIndex shapeOffset
+shape-below [] p = omega (arith, S-start)
+shape-below (i ∷ is) p =
+    let s = length is in
+    let j = sumOf is in
+    let rest : i + j - i + 1 ≡ suc j = omega arith in
+    rw rest
+    (omega (arith, shape-below is (p .1), S-addition s j, S-grows s (suc j) (i + j) (omega (arith, p .0))))
+
+pub shape-back : (is : List ℕ) → Positive is → shapeOf (length is) (sumOf is) (shapeIndex is) ≡ is
+unfolding shapeIndex shapeOffset shapeOf
+shape-back [] p = refl
+shape-back (zero ∷ is) p = absurd (omega (arith, p .0))
+shape-back (suc i ∷ is) p =
+    let s = length is in
+    let j = sumOf is in
+    let rest : suc i + j - suc i + 1 ≡ suc j = omega arith in
+    let left : suc (i + j) - suc i ≡ j = omega arith in
+    let b = first-back s j i (shapeIndex is) (shape-below is (p .1)) in
+    rw (rest, suc-add i j, b .0, b .1, left) (ap (λ (js : List ℕ). suc i ∷ js) (shape-back is (p .1)))

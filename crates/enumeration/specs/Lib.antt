@@ -1,0 +1,6 @@
+pub mod Point
+pub mod Enumeration
+pub mod Product
+pub mod Reading
+pub mod Signs
+pub mod Example

@@ -1,0 +1,71 @@
+-- The point of an index: document 01, "To read an index, take the first s, counted down from m, whose range holds it"; then the pattern, the
+-- shape and the signs are read from the position in that range. Written by itself, and not as the reverse of specs/Product.antt; that each
+-- undoes the other is proved. Assumes nothing.
+use Prim.Native.Nat.{ℕ, zero, suc, _+_, _-_, _/_, _%_, _^_}
+use mathlib.Core.List.{List, [], _∷_}
+use mathlib.Core.Bool.{Bool, true, false}
+use lib.Dec.{ltb, eqb}
+use lib.IntN.{ℤ, pos}
+use Rattle.counts.specs.Counts.{D, S, B, R, O, most}
+use Rattle.enumeration.specs.Point.{signed}
+
+-- The ranges follow one another from s = m down, so the first that holds n is the first that ends past n. None of s, s-1, .. 1: 0, the
+-- range of radius 0.
+unfoldable pub rangeFrom : ℕ → ℕ → ℕ → ℕ → ℕ
+rangeFrom l k n zero = 0
+rangeFrom l k n (suc s) = elim (ltb n (O (suc s) l k + R (suc s) l k)) [ true ↦ suc s | false ↦ rangeFrom l k n s ]
+
+unfoldable pub rangeOf : ℕ → ℕ → ℕ → ℕ
+rangeOf l k n = rangeFrom l k n (most l k)
+
+-- The n-th pattern of s nonzero coordinates among l. The D(s,l-1) patterns that begin with a zero come first.
+unfoldable pub patternOf : ℕ → ℕ → ℕ → List Bool
+patternOf s zero n = []
+patternOf s (suc l) n = elim (ltb n (D s l)) [ true ↦ false ∷ patternOf s l n | false ↦ true ∷ patternOf (s - 1) l (n - D s l) ]
+
+-- Of the n-th shape of s+1 magnitudes that sum to k: its first magnitude, and the number of the shape that is left. The S(s,k-1) shapes that
+-- begin with 1 come first; the others are those that sum to k-1, with a first magnitude larger by 1.
+unfoldable pub firstMagnitude : ℕ → ℕ → ℕ → ℕ
+firstMagnitude s zero n = 0
+firstMagnitude s (suc k) n = elim (ltb n (S s k)) [ true ↦ 1 | false ↦ suc (firstMagnitude s k (n - S s k)) ]
+
+unfoldable pub shapeLeft : ℕ → ℕ → ℕ → ℕ
+shapeLeft s zero n = n
+shapeLeft s (suc k) n = elim (ltb n (S s k)) [ true ↦ n | false ↦ shapeLeft s k (n - S s k) ]
+
+-- the n-th shape of s magnitudes that sum to k
+unfoldable pub shapeOf : ℕ → ℕ → ℕ → List ℕ
+shapeOf zero k n = []
+shapeOf (suc s) k n = firstMagnitude s k n ∷ shapeOf s (k - firstMagnitude s k n) (shapeLeft s k n)
+
+-- bit j of n
+abbrev pub bit : ℕ → ℕ → ℕ
+bit j n = n / 2 ^ j % 2
+
+-- the signs of s nonzero coordinates in the low s bits of n, the first one highest
+unfoldable pub signsOf : ℕ → ℕ → List Bool
+signsOf zero n = []
+signsOf (suc s) n = eqb (bit s n) 1 ∷ signsOf s n
+
+abbrev pub signAll : List Bool → List ℕ → List ℤ
+signAll [] is = []
+signAll (b ∷ bs) [] = []
+signAll (b ∷ bs) (i ∷ is) = signed b i ∷ signAll bs is
+
+-- the nonzero coordinates, spread over their places in the pattern
+abbrev pub spread : List Bool → List ℤ → List ℤ
+spread [] cs = []
+spread (false ∷ p) cs = pos 0 ∷ spread p cs
+spread (true ∷ p) [] = pos 0 ∷ spread p []
+spread (true ∷ p) (c ∷ cs) = c ∷ spread p cs
+
+-- a point by its parts
+unfoldable pub pointFrom : (s l k pattern shape signs : ℕ) → List ℤ
+pointFrom s l k pattern shape signs = spread (patternOf s l pattern) (signAll (signsOf s signs) (shapeOf s k shape))
+
+-- the parts of a position in the range for s, which counts signs first, then shapes, then patterns
+unfoldable pub pointIn : (s l k within : ℕ) → List ℤ
+pointIn s l k within = pointFrom s l k (within / B s / S s k) (within / B s % S s k) within
+
+unfoldable pub productPoint : ℕ → ℕ → ℕ → List ℤ
+productPoint l k n = pointIn (rangeOf l k n) l k (n - O (rangeOf l k n) l k)

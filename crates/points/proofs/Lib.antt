@@ -1,0 +1,2 @@
+pub mod Says
+pub mod OneToOne

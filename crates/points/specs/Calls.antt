@@ -1,0 +1,68 @@
+-- What the calls index and point say, and what point leaves in the lent buffer: document 01, "The product index", "Refusal numbers" and
+-- "Order of checks". l is the length and k the radius, any whole numbers; n is an index. Assumes nothing.
+use Prim.Native.Nat.{ℕ}
+use mathlib.Core.List.{List, [], _∷_, _++_}
+use mathlib.Core.Bool.{Bool, not}
+use lib.Dec.{eqb, leb}
+use lib.IntN.{ℤ}
+use lib.ListN.{length}
+use Rattle.answers.specs.Refusals.{meaning}
+use Rattle.answers.specs.Checks.{Check, firstOf, leaves}
+use Rattle.counts.specs.Counts.{N}
+use Rattle.shell.specs.Shell.{shellChecks}
+use Rattle.enumeration.specs.Point.{radiusOf}
+use Rattle.enumeration.specs.Product.{productIndex}
+use Rattle.enumeration.specs.Reading.{productPoint}
+use Rattle.points.specs.declared.Indexed.{Indexed}
+use Rattle.points.specs.declared.Indexed.the-variants as indexed
+use Rattle.points.specs.declared.Pointed.{Pointed}
+use Rattle.points.specs.declared.Pointed.the-variants as pointed
+
+-- 4: a lent buffer has the wrong length: vector or output not l
+abbrev pub wrongLength : ℕ → ℕ → Bool
+wrongLength b l = not (eqb b l)
+
+-- 5: magnitudes don't sum to k
+abbrev pub wrongSum : List ℤ → ℕ → Bool
+wrongSum x k = not (eqb (radiusOf x) k)
+
+-- 6: index N or more. It is said of any total.
+abbrev pub pastEnd : ℕ → ℕ → Bool
+pastEnd n total = leb total n
+
+-- Index: 1, 2, 3, 4, 5
+abbrev pub indexRest : ℕ → ℕ → List ℤ → List Check
+indexRest l k x =
+    record { number = 4; values = []; fails = wrongLength (length x) l } ∷ record { number = 5; values = []; fails = wrongSum x k } ∷ []
+
+abbrev pub indexChecks : ℕ → ℕ → List ℤ → List Check
+indexChecks l k x = shellChecks l k ++ indexRest l k x
+
+-- Point: 1, 2, 3, 4, 6; b is the length of the lent buffer
+abbrev pub pointRest : ℕ → ℕ → ℕ → ℕ → List Check
+pointRest l k n b =
+    record { number = 4; values = []; fails = wrongLength b l } ∷ record { number = 6; values = []; fails = pastEnd n (N l k) } ∷ []
+
+abbrev pub pointChecks : ℕ → ℕ → ℕ → ℕ → List Check
+pointChecks l k n b = shellChecks l k ++ pointRest l k n b
+
+-- what the call index answers: the index, or a refusal
+abbrev pub indexMeaning : Indexed → List ℕ
+indexMeaning (indexed.At n) = 0 ∷ n ∷ []
+indexMeaning (indexed.Refused refusal) = meaning refusal
+
+-- what it is to say
+abbrev pub indexSays : ℕ → ℕ → List ℤ → List ℕ
+indexSays l k x = firstOf (indexChecks l k x) (0 ∷ productIndex x ∷ [])
+
+-- what the call point answers: that the point is written, or a refusal
+abbrev pub pointMeaning : Pointed → List ℕ
+pointMeaning pointed.Written = 0 ∷ []
+pointMeaning (pointed.Refused refusal) = meaning refusal
+
+-- what it is to say, and what it leaves in a buffer that held `held`
+abbrev pub pointSays : ℕ → ℕ → ℕ → List ℤ → List ℕ
+pointSays l k n held = firstOf (pointChecks l k n (length held)) (0 ∷ [])
+
+abbrev pub pointLeaves : ℕ → ℕ → ℕ → List ℤ → List ℤ
+pointLeaves l k n held = leaves (pointChecks l k n (length held)) (productPoint l k n) held

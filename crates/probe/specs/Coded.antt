@@ -1,0 +1,13 @@
+-- What a call says, in one number: its answer, or 2^40 plus the number of its refusal; or, where the answer has no value, 0 or the number.
+-- Assumes nothing.
+use Prim.Native.Nat.{ℕ, zero, suc, _+_, _^_}
+use mathlib.Core.List.{List, [], _∷_}
+use lib.ListN.{getD}
+
+unfoldable pub coded : List ℕ → ℕ
+coded [] = 0
+coded (zero ∷ vs) = getD vs 0 0
+coded (suc n ∷ vs) = 2 ^ 40 + suc n
+
+abbrev pub numbered : List ℕ → ℕ
+numbered said = getD said 0 0

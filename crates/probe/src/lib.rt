@@ -1,0 +1,54 @@
+// The calls of the other crates, exported to C for the second program and for measuring; the layout program uses `slate`. An answer and a
+// refusal come back in one number: the answer itself, or 2^40 plus the refusal's number.
+use answers::Refusal;
+use answers::number;
+use counts::Length;
+use counts::Radius;
+use points::Indexed;
+use points::Pointed;
+use points::index;
+use points::point;
+use shell::Counted;
+use shell::count;
+ghost use mathlib.Core.Path.{_≡_};
+ghost use Rattle.shell.specs.Shell.{countSays};
+ghost use Rattle.answers.specs.Refusals.{meaning};
+ghost use Rattle.points.specs.Calls.{indexSays, pointSays, pointLeaves};
+ghost use Rattle.probe.specs.Coded.{coded, numbered};
+
+fn refused(refusal: Refusal) -> u64
+    ensures { λ r. ⌜ r ≡ coded (meaning refusal) ⌝ }
+{
+    (1 << 40) + number(refusal) as u64
+}
+
+#[no_mangle]
+pub extern "C" fn probe_count(length: usize, radius: usize) -> u64
+    ensures { λ r. ⌜ r ≡ coded (countSays length radius) ⌝ }
+{
+    match count(Length(length), Radius(radius)) {
+        Counted::Points(n) => n,
+        Counted::Refused(refusal) => refused(refusal),
+    }
+}
+
+#[no_mangle]
+pub extern "C" fn probe_index(length: usize, radius: usize, x: &[i32]) -> u64
+    ensures { λ r. ⌜ r ≡ coded (indexSays length radius (now (x .entry))) ⌝ }
+{
+    match index(Length(length), Radius(radius), x) {
+        Indexed::At(n) => n,
+        Indexed::Refused(refusal) => refused(refusal),
+    }
+}
+
+// 0, or the refusal's number.
+#[no_mangle]
+pub extern "C" fn probe_point(length: usize, radius: usize, n: u64, out: &mut [i32]) -> u32
+    ensures { λ r. ⌜ (r ≡ numbered (pointSays length radius n (now (out .entry)))) × (now (out .exit) ≡ pointLeaves length radius n (now (out .entry))) ⌝ }
+{
+    match point(Length(length), Radius(radius), n, out) {
+        Pointed::Written => 0,
+        Pointed::Refused(refusal) => number(refusal),
+    }
+}

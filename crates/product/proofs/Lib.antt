@@ -1,0 +1,5 @@
+pub mod Coordinates
+pub mod Growth
+pub mod Weighing
+pub mod Writing
+pub mod Located

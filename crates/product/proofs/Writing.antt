@@ -1,0 +1,88 @@
+-- One coordinate of a point that is written from its parts: zero, or the next of the shape; and what is left can be written from again.
+-- Assumes nothing.
+use Prim.Native.Nat.{ℕ, suc, _+_, _-_, _≤_, _<_}
+use mathlib.Core.Path.{_≡_, sym, ap, _∙_}
+use mathlib.Core.List.{List, _∷_, _++_, append-assoc, append-nil}
+use native.Mathlib.Omega.{arith}
+use native.Mathlib.Numerals.{add-one}
+use lib.Dec.{eqb}
+use lib.IntN.{ℤ, pos}
+use lib.ListN.{length, take, set, length-set}
+use lib.Seq.{take-suc-set, take-all}
+use Rattle.counts.specs.Counts.{D}
+use Rattle.enumeration.specs.Point.{signed}
+use Rattle.enumeration.specs.Reading.{bit, firstMagnitude, shapeLeft}
+use Rattle.enumeration.proofs.Patterns.{pattern-at-least, pattern-left}
+use Rattle.enumeration.proofs.Shapes.{first-read}
+use Rattle.enumeration.proofs.Steps.{write-none, write-zero, write-nonzero}
+use Rattle.product.specs.declared.inner.parts.Parts.{Parts}
+use Rattle.product.specs.declared.inner.read.Step.{Step}
+use Rattle.product.specs.Parts.{Writable, writtenFrom}
+use Rattle.product.specs.Steps.{Nonzero, taken}
+
+module _ (q : Parts) (behind : ℕ) (w : Writable q (suc behind)) where
+  pub s-to : q .s ≤ suc behind
+  s-to = pattern-at-least (q .s) (suc behind) (q .pattern) (w .pattern-below)
+
+  pub zero-next : q .pattern < D (q .s) behind → Writable q behind × (writtenFrom q (suc behind) ≡ pos 0 ∷ writtenFrom q behind)
+  zero-next h = (
+    record { length-to = omega (arith, w .length-to); radius-to = w .radius-to; pattern-below = h; shape-below = w .shape-below },
+    write-zero (q .s) behind (q .k) (q .pattern) (q .shape) (q .sign) h,
+  )
+
+  -- the pattern begins with a nonzero coordinate: the d that begin with a zero come before
+  module _ (d : ℕ) (e : d ≡ D (q .s) behind) (h : d ≤ q .pattern) where
+    left : (0 < q .s) × (q .pattern - D (q .s) behind < D (q .s - 1) behind)
+    left = pattern-left (q .s) behind (q .pattern) (w .pattern-below) (rw e at h)
+
+    pub nonzero-there : Nonzero q d
+    nonzero-there =
+        let same : suc (q .s - 1) ≡ q .s = omega (arith, left .0) in
+        record {
+          s-from = left .0;
+          s-to = omega (arith, s-to, w .length-to);
+          radius-to = w .radius-to;
+          passed = h;
+          shape-below = rw same (w .shape-below);
+        }
+
+    pub nonzero-next : Writable (taken q d .left) behind × (writtenFrom q (suc behind) ≡ taken q d .c ∷ writtenFrom (taken q d .left) behind)
+    nonzero-next =
+        let same : suc (q .s - 1) ≡ q .s = omega (arith, left .0) in
+        let first = first-read (q .s - 1) (q .k) (q .shape) (nonzero-there .shape-below) in (
+          record {
+            length-to = omega (arith, w .length-to);
+            radius-to = omega (arith, w .radius-to);
+            pattern-below = rw e (left .1);
+            shape-below = first .left-below;
+          },
+          rw e (rw same at (write-nonzero (q .s - 1) behind (q .k) (q .pattern) (q .shape) (q .sign) (rw (same, ← e) h))),
+        )
+
+-- what the code has taken
+pub taken-is : (q : Parts) (d i left : ℕ) (c : ℤ) → i ≡ firstMagnitude (q .s - 1) (q .k) (q .shape) → left ≡ shapeLeft (q .s - 1) (q .k) (q .shape)
+    → c ≡ signed (eqb (bit (q .s - 1) (q .sign)) 1) i
+    → _≡_ {A = Step}
+    (record { c = c; left = record { s = q .s - 1; k = q .k - i; pattern = q .pattern - d; shape = left; sign = q .sign } })
+    (taken q d)
+taken-is q d i left c e f g = rw (g, e, f)
+
+-- one more coordinate stands in the buffer
+pub write-one : (whole out : List ℤ) (at : ℕ) (q r : Parts) (z z′ : ℤ) → at < length out → z′ ≡ z
+    → Writable r (length out - at - 1) × (writtenFrom q (suc (length out - at - 1)) ≡ z ∷ writtenFrom r (length out - at - 1))
+    → whole ≡ take at out ++ writtenFrom q (length out - at)
+    → Writable r (length (set out at z′) - (at + 1)) × (whole ≡ take (at + 1) (set out at z′) ++ writtenFrom r (length (set out at z′) - (at + 1)))
+write-one whole out at q r z z′ h e next inv =
+    let left : length (set out at z′) - (at + 1) ≡ length out - at - 1 = omega (arith, length-set out at z′) in
+    let one : suc (length out - at - 1) ≡ length out - at = omega arith in
+    let rest = length out - at - 1 in (
+      rw left (next .0),
+      rw (left, e, add-one, take-suc-set out at z h, append-assoc)
+          (inv ∙ ap (λ (y : List ℤ). take at out ++ y) (rw one at (next .1))),
+    )
+
+-- all stand there
+pub write-all : (whole out : List ℤ) (at : ℕ) (q : Parts) → length out ≤ at → whole ≡ take at out ++ writtenFrom q (length out - at) → out ≡ whole
+write-all whole out at q h inv =
+    let none : length out - at ≡ 0 = omega arith in
+    sym (inv ∙ rw (none, write-none (q .s) 0 (q .k) (q .pattern) (q .shape) (q .sign), append-nil) (take-all at out h))

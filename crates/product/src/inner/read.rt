@@ -1,0 +1,140 @@
+// The point of an index, written from the first coordinate on: each coordinate is zero or the next of the shape, and what is left are the
+// parts of a point that is one coordinate shorter.
+use crate::inner::coordinate::signed;
+use crate::inner::parts::Parts;
+use crate::inner::range::Range;
+use counts::Length;
+use counts::Radius;
+use patterns::inner::pattern_count;
+use shapes::inner::shape_count;
+ghost use mathlib.Core.Path.{_≡_};
+ghost use mathlib.Core.List.{_∷_};
+ghost use Prim.Native.Nat.{suc, _≤_, _<_};
+ghost use lib.ListN as listed;
+ghost use Rattle.counts.specs.Counts.{S};
+ghost use Rattle.enumeration.specs.Reading.{firstMagnitude, shapeLeft, productPoint};
+ghost use Rattle.product.specs.Parts.{IsIndexOf, Writable, writtenFrom};
+ghost use Rattle.product.specs.Steps.{Nonzero, taken};
+
+// The first magnitude of a shape, and the number of the shape that is left.
+struct First {
+    magnitude: usize,
+    left: u32,
+}
+
+// The first of s+1 magnitudes that sum to the radius, of the shape of this number. S(s,k-1) shapes begin with 1, and as many as S(s,k-i)
+// with i.
+fn first_magnitude(s: usize, radius: Radius, shape: u32) -> First
+    requires { ⌜ (s < 16) × (radius .0 ≤ 32) × (shape < S (suc s) (radius .0)) ⌝ }
+    ensures { λ r. ⌜ (r .magnitude ≡ firstMagnitude s (radius .0) shape) × (r .left ≡ shapeLeft s (radius .0) shape) × (r .magnitude ≤ radius .0) ⌝ }
+{
+    let sum = radius.0;
+    if s == 0 {
+        return First {
+            magnitude: sum,
+            left: 0,
+        };
+    }
+    let mut k = sum - 1;
+    let mut left = shape;
+    let mut begin = shape_count(s, Radius(k));
+    while begin <= left {
+        left -= begin;
+        k -= 1;
+        begin = shape_count(s, Radius(k));
+    }
+    First {
+        magnitude: sum - k,
+        left,
+    }
+}
+
+// A coordinate, and the parts of what is left to write.
+struct Step {
+    c: i32,
+    left: Parts,
+}
+
+// The first coordinate where it is nonzero: as many patterns as `zeros`, which begin with a zero, come before.
+fn nonzero(parts: Parts, zeros: u32) -> Step
+    requires { ⌜ Nonzero parts zeros ⌝ }
+    ensures { λ r. ⌜ r ≡ taken parts zeros ⌝ }
+{
+    let s = parts.s - 1;
+    let first = first_magnitude(s, Radius(parts.k), parts.shape);
+    let negative = (parts.sign >> s) % 2 == 1;
+    let left = Parts {
+        s,
+        k: parts.k - first.magnitude,
+        pattern: parts.pattern - zeros,
+        shape: first.left,
+        sign: parts.sign,
+    };
+    Step {
+        c: signed(negative, first.magnitude),
+        left,
+    }
+}
+
+// The first coordinate of a point, and the parts of the rest, which is `behind` coordinates long.
+fn next(parts: Parts, behind: usize) -> Step
+    requires { ⌜ Writable parts (suc behind) ⌝ }
+    ensures { λ r. ⌜ Writable (r .left) behind × (writtenFrom parts (suc behind) ≡ r .c ∷ writtenFrom (r .left) behind) ⌝ }
+{
+    let zeros = pattern_count(parts.s, Length(behind));
+    if parts.pattern < zeros {
+        return Step { c: 0, left: parts };
+    }
+    nonzero(parts, zeros)
+}
+
+// The point that these are the parts of, written into the whole buffer.
+fn write(parts: Parts, out: &mut [i32])
+    requires { ⌜ Writable parts (listed.length (now out)) ⌝ }
+    ensures { λ r. ⌜ now (out .exit) ≡ writtenFrom parts (listed.length (now (out .entry))) ⌝ }
+{
+    let mut left = parts;
+    let mut at = 0;
+    while at < out.len() {
+        let step = next(left, out.len() - at - 1);
+        let c = step.c;
+        out[at] = c;
+        left = step.left;
+        at += 1;
+    }
+}
+
+// The parts of the point of an index, from its position in its range. At radius 0 no coordinate is nonzero.
+fn parts_at(length: Length, radius: Radius, n: u64, range: Range) -> Parts
+    requires { ⌜ IsIndexOf (length .0) (radius .0) n (range .s) (range .start) ⌝ }
+    ensures { λ r. ⌜ Writable r (length .0) × (productPoint (length .0) (radius .0) n ≡ writtenFrom r (length .0)) ⌝ }
+{
+    let s = range.s;
+    let within = n - range.start;
+    if s == 0 {
+        return Parts {
+            s,
+            k: radius.0,
+            pattern: 0,
+            shape: 0,
+            sign: within,
+        };
+    }
+    let block = (within >> s) as u32;
+    let shapes = shape_count(s, radius);
+    Parts {
+        s,
+        k: radius.0,
+        pattern: block / shapes,
+        shape: block % shapes,
+        sign: within,
+    }
+}
+
+// The point of an index below N of a usable shell.
+pub fn write_point(length: Length, radius: Radius, n: u64, range: Range, out: &mut [i32])
+    requires { ⌜ IsIndexOf (length .0) (radius .0) n (range .s) (range .start) × (listed.length (now out) ≡ length .0) ⌝ }
+    ensures { λ r. ⌜ now (out .exit) ≡ productPoint (length .0) (radius .0) n ⌝ }
+{
+    write(parts_at(length, radius, n, range), out);
+}

@@ -1,0 +1,21 @@
+/* The calls under test, as a sender or a slate would link them. Any archive that has these three can be held to the second program.
+   The refusal numbers and the order of checks are those of document 01, "Refusal numbers". */
+
+#ifndef SECOND_PROBE_H
+#define SECOND_PROBE_H
+
+#include "libc.h"
+
+/* An answer of the first two calls that is REFUSED or more is REFUSED plus the refusal number. */
+#define REFUSED ((uint64_t)1 << 40)
+
+/* N, or refused 1, 2, 3. */
+uint64_t probe_count(uint64_t length, uint64_t radius);
+
+/* The index of the point, or refused 1, 2, 3, 4, 5. */
+uint64_t probe_index(uint64_t length, uint64_t radius, const int32_t *point, uint64_t point_length);
+
+/* 0, and the point of the index in `out`; or the refusal number 1, 2, 3, 4, 6, and `out` as it was. */
+uint32_t probe_point(uint64_t length, uint64_t radius, uint64_t index, int32_t *out, uint64_t out_length);
+
+#endif
