@@ -1,7 +1,7 @@
 -- The law of the order of checks, once for all calls: a call says number n exactly when n's check fails and none before it does, and it
 -- answers exactly when none fails. Each way round is a law of its own. A call that refuses leaves a lent buffer as it was. Assumes nothing.
 use Prim.Native.Nat.{ℕ, suc, _<_}
-use mathlib.Core.Path.{_≡_, refl, sym, ap₂, _∙_}
+use mathlib.Core.Path.{_≡_, refl, sym, ap, ap₂, _∙_}
 use mathlib.Core.List.{List, [], _∷_, _++_}
 use mathlib.Core.Bool.{Bool, true, false}
 use mathlib.Core.Logic.{inl, inr, ⊎-elim}
@@ -53,40 +53,48 @@ says-passes a a′ (c ∷ cs) p e = go (c .fails) refl e (says-passes a a′ cs 
     go false t h rest = (t, rest h)
 
 -- a refusal is one of the list's
-pub refusal-refuses : (a : List ℕ) (cs : List Check) (r : Refusal) → meaning r ≡ firstOf cs (0 ∷ a)
+refusal-refuses : (a : List ℕ) (cs : List Check) (r : Refusal) → meaning r ≡ firstOf cs (0 ∷ a)
     → (n : ℕ) × (vs : List ℕ) × (meaning r ≡ suc n ∷ vs) × Refuses cs (suc n) vs
 refusal-refuses a cs r e =
     let b = meaning-begins r in
     (b .0, b .1, b .2, says-refuses a cs (b .0) (b .1) (sym e ∙ b .2))
 
--- so it stands whatever the call would have answered
+-- so it stands whatever the call would have answered, and leaves a lent buffer as it was
 pub refusal-stands : (a answer : List ℕ) (cs : List Check) (r : Refusal) → meaning r ≡ firstOf cs (0 ∷ a) → meaning r ≡ firstOf cs answer
 refusal-stands a answer cs r e =
     let b = refusal-refuses a cs r e in
     b .2 ∙ sym (refuses-says answer cs (suc (b .0)) (b .1) (b .3))
 
--- Checks that others go before: cs before ds.
-first-refuse : (cs ds : List Check) (n : ℕ) (vs : List ℕ) → Refuses cs n vs → Refuses (cs ++ ds) n vs
-first-refuse [] ds n vs r = absurd r
-first-refuse (c ∷ cs) ds n vs r = ⊎-elim (λ h. inl h) (λ h. inr (h .0, first-refuse cs ds n vs (h .1))) r
-
--- a refusal of the first stands, and leaves a lent buffer as it was
-pub refused-says : (a answer : List ℕ) (cs ds : List Check) (r : Refusal) → meaning r ≡ firstOf cs (0 ∷ a) → meaning r ≡ firstOf (cs ++ ds) answer
-refused-says a answer cs ds r e =
+pub refusal-leaves : {A : Type 0} (made held : A) (a : List ℕ) (cs : List Check) (r : Refusal) → meaning r ≡ firstOf cs (0 ∷ a)
+    → held ≡ leaves cs made held
+refusal-leaves made held a cs r e =
     let b = refusal-refuses a cs r e in
-    b .2 ∙ sym (refuses-says answer (cs ++ ds) (suc (b .0)) (b .1) (first-refuse cs ds (suc (b .0)) (b .1) (b .3)))
+    sym (refuses-leaves made held cs (suc (b .0)) (b .1) (b .3))
 
-pub refused-leaves : {A : Type 0} (made held : A) (a : List ℕ) (cs ds : List Check) (r : Refusal) → meaning r ≡ firstOf cs (0 ∷ a)
-    → held ≡ leaves (cs ++ ds) made held
-refused-leaves made held a cs ds r e =
-    let b = refusal-refuses a cs r e in
-    sym (refuses-leaves made held (cs ++ ds) (suc (b .0)) (b .1) (first-refuse cs ds (suc (b .0)) (b .1) (b .3)))
+-- Checks cs, and then checks ds: a refusal of cs stands and leaves a lent buffer as it was, and where cs pass, ds decide.
+module _ (cs ds : List Check) where
+  says-then : (answer : List ℕ) → firstOf (cs ++ ds) answer ≡ firstOf cs (firstOf ds answer)
+  says-then answer = go cs
+    where
+      go : (es : List Check) → firstOf (es ++ ds) answer ≡ firstOf es (firstOf ds answer)
+      go [] = refl
+      go (c ∷ es) = ap (pick (c .fails) (c .number ∷ c .values)) (go es)
 
--- where the first pass, the others decide
-pub passed-says : (answer : List ℕ) (cs ds : List Check) → Passes cs → firstOf (cs ++ ds) answer ≡ firstOf ds answer
-passed-says answer [] ds p = refl
-passed-says answer (c ∷ cs) ds p = rw (p .0) (passed-says answer cs ds (p .1))
+  leaves-then : {A : Type 0} (made held : A) → leaves (cs ++ ds) made held ≡ leaves cs (leaves ds made held) held
+  leaves-then made held = go cs
+    where
+      go : (es : List Check) → leaves (es ++ ds) made held ≡ leaves es (leaves ds made held) held
+      go [] = refl
+      go (c ∷ es) = ap (pick (c .fails) held) (go es)
 
-pub passed-leaves : {A : Type 0} (made held : A) (cs ds : List Check) → Passes cs → leaves (cs ++ ds) made held ≡ leaves ds made held
-passed-leaves made held [] ds p = refl
-passed-leaves made held (c ∷ cs) ds p = rw (p .0) (passed-leaves made held cs ds (p .1))
+  pub refused-says : (a answer : List ℕ) (r : Refusal) → meaning r ≡ firstOf cs (0 ∷ a) → meaning r ≡ firstOf (cs ++ ds) answer
+  refused-says a answer r e = refusal-stands a (firstOf ds answer) cs r e ∙ sym (says-then answer)
+
+  pub refused-leaves : {A : Type 0} (made held : A) (a : List ℕ) (r : Refusal) → meaning r ≡ firstOf cs (0 ∷ a) → held ≡ leaves (cs ++ ds) made held
+  refused-leaves made held a r e = refusal-leaves (leaves ds made held) held a cs r e ∙ sym (leaves-then made held)
+
+  pub passed-says : (answer : List ℕ) → Passes cs → firstOf ds answer ≡ firstOf (cs ++ ds) answer
+  passed-says answer p = sym (says-then answer ∙ passes-says (firstOf ds answer) cs p)
+
+  pub passed-leaves : {A : Type 0} (made held : A) → Passes cs → leaves ds made held ≡ leaves (cs ++ ds) made held
+  passed-leaves made held p = sym (leaves-then made held ∙ passes-leaves (leaves ds made held) held cs p)

@@ -1,5 +1,5 @@
-// The cases of the calls index and point: the document's values, each range's ends at some shells, and the refusals in their order. A buffer
-// is lent full of nines, so that a refused call is seen to leave it.
+// The cases of the calls index and point: the document's values, the first and last point of some shells, and the refusals in their order. A
+// buffer is lent full of nines, so that a refused call is seen to leave it.
 use crate::text;
 use counts::Length;
 use counts::Radius;

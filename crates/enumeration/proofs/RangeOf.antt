@@ -1,5 +1,5 @@
 -- The range of an index, for all lengths and radii:
---     range-first, range-here, range-on, range-end     the search starts at m, stops at a range that ends past n, and else goes down to 0
+--     range-first, range-here, range-on, range-end     the search starts at m, stops at a range that holds n, passes one that ends before, and ends at 0
 --     starts-down                a range with a smaller s starts no earlier
 --     range-holds                the range of an index below N holds it
 --     range-found                an index has no other range than the one that holds it
@@ -10,11 +10,13 @@ use mathlib.Core.Path.{_≡_, refl, _∙_}
 use native.Mathlib.Omega.{arith}
 use native.Mathlib.Decide.{decLt, le-ind}
 use native.Mathlib.Nat.{le-refl}
-use borrow.Author.Tests.{lt-ltb, le-ltb}
+use mathlib.Core.Bool.{Bool, true, false, and-eq-true-iff}
+use lib.Dec.{leb, ltb}
+use borrow.Author.Tests.{ltb-true, lt-ltb, le-ltb, le-leb}
 use Rattle.counts.specs.Counts.{N, S, R, O, most}
 use Rattle.counts.proofs.Ranges.{range-next, range-last, end-bound}
 use Rattle.counts.proofs.Volume.{volume, volume-start}
-use Rattle.enumeration.specs.Reading.{rangeFrom, rangeOf}
+use Rattle.enumeration.specs.Reading.{inRange, rangeFrom, rangeOf}
 
 -- n is in the range for s
 pub record Holds (l k n s : ℕ) : Type 0 where
@@ -23,21 +25,28 @@ pub record Holds (l k n s : ℕ) : Type 0 where
   pub to-end : n < O s l k + R s l k
 
 module _ (l k n : ℕ) where
-  stop : (s : ℕ) → n < O (suc s) l k + R (suc s) l k → rangeFrom l k n (suc s) ≡ suc s
+  -- a range that starts at n or before and ends past it holds it; one that ends before does not
+  holds : (s : ℕ) → O s l k ≤ n → n < O s l k + R s l k → inRange l k n s ≡ true
+  holds s p h = rw (le-leb (O s l k) n p) (lt-ltb n (O s l k + R s l k) h)
+
+  passed : (s : ℕ) → O s l k + R s l k ≤ n → inRange l k n s ≡ false
+  passed s h = rw (le-leb (O s l k) n (omega arith)) (le-ltb n (O s l k + R s l k) h)
+
+  stop : (s : ℕ) → O (suc s) l k ≤ n → n < O (suc s) l k + R (suc s) l k → rangeFrom l k n (suc s) ≡ suc s
   unfolding rangeFrom
-  stop s h = rw (lt-ltb n (O (suc s) l k + R (suc s) l k) h, rangeFrom)
+  stop s p h = rw (holds (suc s) p h, rangeFrom)
 
   pass : (s : ℕ) → O (suc s) l k + R (suc s) l k ≤ n → rangeFrom l k n (suc s) ≡ rangeFrom l k n s
   unfolding rangeFrom
-  pass s h = rw (le-ltb n (O (suc s) l k + R (suc s) l k) h, rangeFrom)
+  pass s h = rw (passed (suc s) h, rangeFrom)
 
   pub range-first : rangeOf l k n ≡ rangeFrom l k n (most l k)
   unfolding rangeOf
   range-first = refl
 
-  pub range-here : (s : ℕ) → 0 < s → n < O s l k + R s l k → rangeFrom l k n s ≡ s
-  range-here zero p h = absurd (omega arith)
-  range-here (suc s) p h = stop s h
+  pub range-here : (s : ℕ) → 0 < s → O s l k ≤ n → n < O s l k + R s l k → rangeFrom l k n s ≡ s
+  range-here zero p b h = absurd (omega arith)
+  range-here (suc s) p b h = stop s b h
 
   pub range-on : (s : ℕ) → 0 < s → O s l k + R s l k ≤ n → rangeFrom l k n s ≡ rangeFrom l k n (s - 1)
   range-on zero p h = absurd (omega arith)
@@ -61,7 +70,7 @@ holds-from l k n (suc t) h q p =
   where
     go : Dec (n < O (suc t) l k + R (suc t) l k) → (O (suc t) l k + R (suc t) l k ≤ n → Holds l k n (rangeFrom l k n t))
         → Holds l k n (rangeFrom l k n (suc t))
-    go (yes r) rest = rw (stop l k n t r) (record { to-most = q; from-start = p; to-end = r })
+    go (yes r) rest = rw (stop l k n t p r) (record { to-most = q; from-start = p; to-end = r })
     go (no r) rest =
         let past : O (suc t) l k + R (suc t) l k ≤ n = omega arith in
         rw (pass l k n t past) (rest past)
@@ -78,23 +87,29 @@ found-from l k n s (suc t) h p q = go (decLt t s) (λ r. found-from l k n s t h 
     go : Dec (t < s) → (s ≤ t → rangeFrom l k n t ≡ s) → rangeFrom l k n (suc t) ≡ s
     go (yes r) rest =
         let same : s ≡ suc t = omega arith in
-        rw same (stop l k n t (rw same at (h .to-end)))
+        rw same (stop l k n t (rw same at (h .from-start)) (rw same at (h .to-end)))
     go (no r) rest =
         pass l k n t (omega (arith, h .from-start, starts-down l k s t (omega arith) (omega arith), range-next S l k t q)) ∙ rest (omega arith)
 
 pub range-found : (l k n s : ℕ) → Holds l k n s → rangeOf l k n ≡ s
 range-found l k n s h = range-first l k n ∙ found-from l k n s (most l k) h (h .to-most) (le-refl (most l k))
 
-below-from : (l k n t : ℕ) → 0 < rangeFrom l k n t → n < N l k
-below-from l k n zero h = absurd (omega (arith, range-end l k n))
-below-from l k n (suc t) h = go (decLt n (O (suc t) l k + R (suc t) l k)) (below-from l k n t)
+-- where a range from 1 on is found it holds n
+from-holds : (l k n t : ℕ) → 0 < rangeFrom l k n t → n < N l k
+unfolding rangeFrom
+from-holds l k n zero h = absurd (omega arith)
+from-holds l k n (suc t) h = go (inRange l k n (suc t)) refl h (from-holds l k n t)
   where
-    go : Dec (n < O (suc t) l k + R (suc t) l k) → (0 < rangeFrom l k n t → n < N l k) → n < N l k
-    go (yes r) rest = omega (arith, end-bound l k (suc t))
-    go (no r) rest = rest (rw (pass l k n t (omega arith)) at h)
+    go : (b : Bool) → inRange l k n (suc t) ≡ b → 0 < elim b [ true ↦ suc t | false ↦ rangeFrom l k n t ]
+        → (0 < rangeFrom l k n t → n < N l k) → n < N l k
+    go true e p rest =
+        let start = leb (O (suc t) l k) n in
+        let end = O (suc t) l k + R (suc t) l k in
+        omega (arith, ltb-true n end (and-eq-true-iff start (ltb n end) .0 e .1), end-bound l k (suc t))
+    go false e p rest = rest p
 
 pub found-below : (l k n : ℕ) → 0 < rangeOf l k n → n < N l k
-found-below l k n h = below-from l k n (most l k) (rw (range-first l k n) at h)
+found-below l k n h = from-holds l k n (most l k) (rw (range-first l k n) at h)
 
 pub none-found : (l k n : ℕ) → rangeOf l k n ≡ 0 → 0 < k → N l k ≤ n
 none-found l zero n e p = absurd (omega arith)

@@ -3,18 +3,22 @@
 -- undoes the other is proved. Assumes nothing.
 use Prim.Native.Nat.{ℕ, zero, suc, _+_, _-_, _/_, _%_, _^_}
 use mathlib.Core.List.{List, [], _∷_}
-use mathlib.Core.Bool.{Bool, true, false}
-use lib.Dec.{ltb, eqb}
+use mathlib.Core.Bool.{Bool, true, false, _&&_}
+use lib.Dec.{leb, ltb, eqb}
 use lib.IntN.{ℤ, pos}
 use Rattle.counts.specs.Counts.{D, S, B, R, O, most}
 use Rattle.enumeration.specs.Point.{signed}
 
--- The ranges follow one another from s = m down, so the first that holds n is the first that ends past n. None of s, s-1, .. 1: 0, the
--- range of radius 0.
+-- the range for s holds n: the R numbers from O(s) on
+abbrev pub inRange : ℕ → ℕ → ℕ → ℕ → Bool
+inRange l k n s = leb (O s l k) n && ltb n (O s l k + R s l k)
+
+-- the first of s, s-1, .. 1 whose range holds n; where none does it is 0, the range of radius 0
 unfoldable pub rangeFrom : ℕ → ℕ → ℕ → ℕ → ℕ
 rangeFrom l k n zero = 0
-rangeFrom l k n (suc s) = elim (ltb n (O (suc s) l k + R (suc s) l k)) [ true ↦ suc s | false ↦ rangeFrom l k n s ]
+rangeFrom l k n (suc s) = elim (inRange l k n (suc s)) [ true ↦ suc s | false ↦ rangeFrom l k n s ]
 
+-- the first s, counted down from m, whose range holds it
 unfoldable pub rangeOf : ℕ → ℕ → ℕ → ℕ
 rangeOf l k n = rangeFrom l k n (most l k)
 

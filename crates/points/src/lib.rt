@@ -10,7 +10,8 @@ use product::inner::weigh::index_of;
 use shell::Shell;
 use shell::check_shell;
 ghost use mathlib.Core.Path.{_≡_};
-ghost use Rattle.points.specs.Calls.{indexMeaning, indexSays, pointMeaning, pointSays, pointLeaves};
+ghost use Rattle.shell.specs.Shell.{IsUsable};
+ghost use Rattle.points.specs.Calls.{indexMeaning, indexSays, indexSaysIn, pointMeaning, pointSays, pointSaysIn, pointLeaves, pointLeavesIn};
 
 pub enum Indexed {
     At(u64),
@@ -26,10 +27,27 @@ pub enum Pointed {
 pub fn index(length: Length, radius: Radius, x: &[i32]) -> Indexed
     ensures { λ r. ⌜ indexMeaning r ≡ indexSays (length .0) (radius .0) (now (x .entry)) ⌝ }
 {
-    let shell = check_shell(length, radius);
-    if let Shell::Unusable(refusal) = shell {
-        return Indexed::Refused(refusal);
+    match check_shell(length, radius) {
+        Shell::Usable => index_in(length, radius, x),
+        Shell::Unusable(refusal) => Indexed::Refused(refusal),
     }
+}
+
+// The call point: the point of an index of the shell, written into the lent buffer once every check has passed.
+pub fn point(length: Length, radius: Radius, n: u64, out: &mut [i32]) -> Pointed
+    ensures { λ r. ⌜ (pointMeaning r ≡ pointSays (length .0) (radius .0) n (now (out .entry))) × (now (out .exit) ≡ pointLeaves (length .0) (radius .0) n (now (out .entry))) ⌝ }
+{
+    match check_shell(length, radius) {
+        Shell::Usable => point_in(length, radius, n, out),
+        Shell::Unusable(refusal) => Pointed::Refused(refusal),
+    }
+}
+
+// What index does in a usable shell: the checks 4 and 5, and the work.
+fn index_in(length: Length, radius: Radius, x: &[i32]) -> Indexed
+    requires { ⌜ IsUsable (length .0) (radius .0) ⌝ }
+    ensures { λ r. ⌜ indexMeaning r ≡ indexSaysIn (length .0) (radius .0) (now (x .entry)) ⌝ }
+{
     if x.len() != length.0 {
         return Indexed::Refused(Refusal::BufferLength);
     }
@@ -39,14 +57,11 @@ pub fn index(length: Length, radius: Radius, x: &[i32]) -> Indexed
     Indexed::At(index_of(length, radius, x))
 }
 
-// The call point: the point of an index of the shell, written into the lent buffer once every check has passed.
-pub fn point(length: Length, radius: Radius, n: u64, out: &mut [i32]) -> Pointed
-    ensures { λ r. ⌜ (pointMeaning r ≡ pointSays (length .0) (radius .0) n (now (out .entry))) × (now (out .exit) ≡ pointLeaves (length .0) (radius .0) n (now (out .entry))) ⌝ }
+// What point does in a usable shell: the checks 4 and 6, and the work.
+fn point_in(length: Length, radius: Radius, n: u64, out: &mut [i32]) -> Pointed
+    requires { ⌜ IsUsable (length .0) (radius .0) ⌝ }
+    ensures { λ r. ⌜ (pointMeaning r ≡ pointSaysIn (length .0) (radius .0) n (now (out .entry))) × (now (out .exit) ≡ pointLeavesIn (length .0) (radius .0) n (now (out .entry))) ⌝ }
 {
-    let shell = check_shell(length, radius);
-    if let Shell::Unusable(refusal) = shell {
-        return Pointed::Refused(refusal);
-    }
     if out.len() != length.0 {
         return Pointed::Refused(Refusal::BufferLength);
     }

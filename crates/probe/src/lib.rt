@@ -1,5 +1,5 @@
-// The calls of the other crates, exported to C for the second program and for measuring; the layout program uses `slate`. An answer and a
-// refusal come back in one number: the answer itself, or 2^40 plus the refusal's number.
+// The calls of the other crates, exported to C for the second program alone. An answer and a refusal come back in one number: the answer
+// itself, or 2^40 plus the refusal's number.
 use answers::Refusal;
 use answers::number;
 use counts::Length;
@@ -16,12 +16,14 @@ ghost use Rattle.answers.specs.Refusals.{meaning};
 ghost use Rattle.points.specs.Calls.{indexSays, pointSays, pointLeaves};
 ghost use Rattle.probe.specs.Coded.{coded, numbered};
 
+// The code of a refusal.
 fn refused(refusal: Refusal) -> u64
     ensures { λ r. ⌜ r ≡ coded (meaning refusal) ⌝ }
 {
     (1 << 40) + number(refusal) as u64
 }
 
+// The call count.
 #[no_mangle]
 pub extern "C" fn probe_count(length: usize, radius: usize) -> u64
     ensures { λ r. ⌜ r ≡ coded (countSays length radius) ⌝ }
@@ -32,6 +34,7 @@ pub extern "C" fn probe_count(length: usize, radius: usize) -> u64
     }
 }
 
+// The call index.
 #[no_mangle]
 pub extern "C" fn probe_index(length: usize, radius: usize, x: &[i32]) -> u64
     ensures { λ r. ⌜ r ≡ coded (indexSays length radius (now (x .entry))) ⌝ }
@@ -42,7 +45,7 @@ pub extern "C" fn probe_index(length: usize, radius: usize, x: &[i32]) -> u64
     }
 }
 
-// 0, or the refusal's number.
+// The call point, which answers with no value: 0, or the refusal's number.
 #[no_mangle]
 pub extern "C" fn probe_point(length: usize, radius: usize, n: u64, out: &mut [i32]) -> u32
     ensures { λ r. ⌜ (r ≡ numbered (pointSays length radius n (now (out .entry)))) × (now (out .exit) ≡ pointLeaves length radius n (now (out .entry))) ⌝ }

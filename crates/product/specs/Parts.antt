@@ -1,4 +1,5 @@
--- The parts that the code works with: a point's, and those that a point is written from. Assumes nothing.
+-- The parts that the code works with: a point's, with the index that they make up, and those that a point is written from; and what is asked
+-- of them where they are used. Assumes nothing.
 use Prim.Native.Nat.{ℕ, _+_, _*_, _^_, _≤_, _<_}
 use mathlib.Core.Path.{_≡_}
 use mathlib.Core.List.{List}
@@ -33,7 +34,7 @@ grown behind i negative left =
       sign = signBit negative * B (behind .s) + behind .sign;
     }
 
--- they are small
+-- what those sums keep to: within lengths to 16 and radii to 32 none is large
 pub record Room (behind : Parts) (i : ℕ) (negative : Bool) (left : ℕ) : Type 0 where
   pub magnitude-from : 0 < i
   pub left-to : left ≤ 16
@@ -47,7 +48,7 @@ pub record Room (behind : Parts) (i : ℕ) (negative : Bool) (left : ℕ) : Type
 abbrev pub weighed : ℕ → ℕ → Parts → ℕ
 weighed l k parts = weigh (parts .s) l k (parts .pattern) (parts .shape) (parts .sign)
 
--- it is small, and so is what counts the blocks of 2^s; without nonzero coordinates it is 0
+-- what it keeps to: it is at most 2^32, and so is the number of blocks of 2^s before it in its range; without nonzero coordinates it is 0
 pub record Weighable (l k : ℕ) (parts : Parts) : Type 0 where
   pub s-to-length : parts .s ≤ l
   pub s-to-radius : parts .s ≤ k

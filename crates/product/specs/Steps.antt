@@ -7,7 +7,7 @@ use Rattle.enumeration.specs.Reading.{bit, firstMagnitude, shapeLeft}
 use Rattle.product.specs.declared.inner.parts.Parts.{Parts}
 use Rattle.product.specs.declared.inner.read.Step.{Step}
 
--- d patterns come before
+-- the first coordinate and the rest; the d patterns that begin with a zero come before
 abbrev pub taken : Parts → ℕ → Step
 taken parts d =
     record {

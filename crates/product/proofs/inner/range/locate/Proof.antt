@@ -1,5 +1,5 @@
--- `product::inner::range::locate` is the first range, counted down from m, that ends past n: at each turn the start is that of the range for s,
--- and the search from s finds what the search from m does. Assumes nothing.
+-- `product::inner::range::locate` is the first range, counted down from m, that holds n: at each turn the start is that of the range for s and
+-- at most n, so that the range holds n where it ends past it, and the search from s finds what the search from m does. Assumes nothing.
 use borrow.Author.Needs.{needs}
 use Prim.Native.Nat.{_+_, _-_, _≤_}
 use mathlib.Core.Path.{_≡_, sym, ap, ap₂, _∙_}
@@ -13,7 +13,7 @@ use Rattle.product.proofs.inner.range.locate.Tie as tie
 
 abbrev Inv-loop : tie.InvT-loop
 Inv-loop length radius n s₀ start₀ s start =
-    (s ≤ most (length .0) (radius .0)) × (start ≡ O s (length .0) (radius .0))
+    (s ≤ most (length .0) (radius .0)) × (start ≡ O s (length .0) (radius .0)) × (start ≤ n)
     × (rangeOf (length .0) (radius .0) n ≡ rangeFrom (length .0) (radius .0) n s)
 
 abbrev μ-loop : tie.MeasureT-loop
@@ -28,6 +28,7 @@ loop-holds c =
     let m = c .most .ensures in (
       omega arith,
       sym (range-last S (a .length .0) (a .radius .0) (c .most .result) (omega arith)),
+      omega arith,
       range-first (a .length .0) (a .radius .0) (a .n) ∙ ap (rangeFrom (a .length .0) (a .radius .0) (a .n)) (sym m),
     )
 
@@ -53,7 +54,8 @@ loop-again c =
     let size = c .before .range-size .ensures in (
       omega arith,
       ap₂ _+_ (at .inv .1) size ∙ sym (range-down S (a .length .0) (a .radius .0) (at .s) (omega arith) (at .inv .0)),
-      at .inv .2 ∙ range-on (a .length .0) (a .radius .0) (a .n) (at .s) (omega arith) (omega (arith, at .inv .1, size)),
+      omega arith,
+      at .inv .3 ∙ range-on (a .length .0) (a .radius .0) (a .n) (at .s) (omega arith) (omega (arith, at .inv .1, size)),
     )
 
 returns : tie.Need-returns Inv-loop μ-loop
@@ -61,14 +63,15 @@ returns c =
     let a = c .before .before .before .args in
     let at = c .before .loop in
     let none : at .s ≡ 0 = omega arith in
-    (none ∙ sym (at .inv .2 ∙ ap (rangeFrom (a .length .0) (a .radius .0) (a .n)) none ∙ range-end (a .length .0) (a .radius .0) (a .n)), at .inv .1)
+    (none ∙ sym (at .inv .3 ∙ ap (rangeFrom (a .length .0) (a .radius .0) (a .n)) none ∙ range-end (a .length .0) (a .radius .0) (a .n)), at .inv .1)
 
 returns-2 : tie.Need-returns-2 Inv-loop μ-loop
 returns-2 c =
     let a = c .before .before .before .before .before .args in
     let at = c .before .before .before .loop in
     let size = c .before .range-size .ensures in
-    (sym (at .inv .2 ∙ range-here (a .length .0) (a .radius .0) (a .n) (at .s) (omega arith) (omega (arith, at .inv .1, size))), at .inv .1)
+    let here = range-here (a .length .0) (a .radius .0) (a .n) (at .s) (omega arith) (omega arith) (omega (arith, at .inv .1, size)) in
+    (sym (at .inv .3 ∙ here), at .inv .1)
 
 pub locate-spec : {M : Type 1} → statement M
 locate-spec =
