@@ -1,4 +1,4 @@
-/* Numbers, signs and points by chance, the same ones in every run. */
+/* Numbers, signs, points and rows of a pairing table by chance, the same ones in every run. */
 
 #include "second.h"
 
@@ -44,4 +44,32 @@ void point_by_chance(struct shell shell, int32_t *point)
         left -= lump;
     }
     sign_by_chance(magnitudes, shell.length, point);
+}
+
+/* Radii of a row: 0, then others, each larger than the one before and usable, often the largest usable one as the last. */
+static void radii_by_chance(uint64_t length, uint64_t number, uint8_t *radii)
+{
+    uint64_t largest = MOST_RADIUS;
+    while (!is_usable((struct shell){length, largest}))
+        largest--;
+    radii[0] = 0;
+    for (uint64_t i = 1, spare = largest - (number - 1); i < number; i++) {
+        const uint64_t left_out = chance_below(spare + 1);
+        radii[i] = (uint8_t)(radii[i - 1] + left_out + 1);
+        spare -= left_out;
+    }
+    if (number > 1 && chance_below(2))
+        radii[number - 1] = (uint8_t)largest;
+}
+
+/* A row that is good once it has places; the step is often at an end, or where the high byte begins to count. */
+void row_by_chance(uint8_t *row)
+{
+    const uint64_t steps[] = {1, 255, 256, 65535};
+    for (int i = 0; i < ROW_SIZE; i++)
+        row[i] = 0;
+    row[AT_LENGTH] = (uint8_t)(1 + chance_below(MOST_LENGTH));
+    row[AT_NUMBER_OF_RADII] = (uint8_t)(1 + chance_below(MOST_RADII));
+    radii_by_chance(row[AT_LENGTH], row[AT_NUMBER_OF_RADII], row + AT_RADII);
+    set_two_bytes(row + AT_STEP, chance_below(2) ? steps[chance_below(ENTRIES(steps))] : 1 + chance_below(65535));
 }

@@ -1,5 +1,5 @@
-/* One comparison of one call with what is expected of it. The first difference ends the program, with the call, the shell, what was
-   expected and what came. What a call is lent lies among guards; only a point that is answered may change it. */
+/* One comparison of one call with what is expected of it. The first difference ends the program, with the call, the shell or the
+   table, what was expected and what came. What a call is lent lies among guards; only a point that is answered may change it. */
 
 #include "second.h"
 
@@ -8,6 +8,13 @@ enum { GUARDS = 8, ROOM = GUARDS + MOST_LENT + GUARDS };
 /* The lent numbers begin at cells + GUARDS. */
 struct room {
     int32_t cells[ROOM];
+};
+
+/* The lent table; what of `bytes` is beyond its size guards it too. */
+struct table_room {
+    uint8_t front[GUARDS];
+    uint8_t bytes[ROW_SIZE * MOST_LENT_ROWS];
+    uint8_t back[GUARDS];
 };
 
 struct comparisons compared;
@@ -47,6 +54,14 @@ static void print_point(const char *what, const int32_t *point, uint64_t length)
     printf(")");
 }
 
+/* In hexadecimal, a space between rows. */
+static void print_table(const char *call, const struct table *table)
+{
+    printf("%s, table of %lu bytes ", call, table->size);
+    for (uint64_t i = 0; i < table->size && i < sizeof table->bytes; i++)
+        printf(i % ROW_SIZE == 0 && i > 0 ? " %02x" : "%02x", table->bytes[i]);
+}
+
 static void print_answer(const char *what, uint64_t answer)
 {
     if (answer > REFUSED)
@@ -69,7 +84,7 @@ static _Noreturn void end(const char *last_words)
     exit(1);
 }
 
-/* What probe_point returns, as an answer of the other two calls. */
+/* What probe_point and probe_check return, as an answer of the first two calls. */
 static uint64_t as_answer(uint32_t number)
 {
     return number ? REFUSED + number : 0;
@@ -183,4 +198,60 @@ void expect_refused_without_buffer(struct shell shell, uint64_t index, uint32_t 
         differ(REFUSED + refusal, as_answer(from_point));
     }
     compared.refusals[refusal] += 2;
+}
+
+static struct table_room table_among_guards(const struct table *table)
+{
+    struct table_room room;
+    for (int i = 0; i < GUARDS; i++) {
+        room.front[i] = (uint8_t)(0x91 + i);
+        room.back[i] = (uint8_t)(0xe7 - i);
+    }
+    for (uint64_t i = 0; i < sizeof room.bytes; i++)
+        room.bytes[i] = table->bytes[i];
+    return room;
+}
+
+static int same_table(const struct table_room *one, const struct table_room *other)
+{
+    return memcmp(one, other, sizeof *one) == 0;
+}
+
+/* Both calls with a pairing table: 0 and the number of its places, or 7 and the row. */
+void expect_check(const struct table *table, uint32_t refusal, uint64_t value)
+{
+    const struct table_room before = table_among_guards(table);
+    struct table_room room = before;
+    uint32_t got = probe_check(room.bytes, table->size);
+    if (got != refusal || !same_table(&room, &before)) {
+        print_table("probe_check", table);
+        if (got == refusal)
+            end("the table that it was lent is changed");
+        differ(as_answer(refusal), as_answer(got));
+    }
+    uint64_t got_value = probe_check_value(room.bytes, table->size);
+    if (got_value != value || !same_table(&room, &before)) {
+        print_table("probe_check_value", table);
+        if (got_value == value)
+            end("the table that it was lent is changed");
+        printf(refusal ? ", row" : ", places");
+        differ(value, got_value);
+    }
+    note(as_answer(refusal), &compared.tables);
+}
+
+/* Both calls with no table at all: a null pointer and length 0. */
+void expect_check_without_table(void)
+{
+    uint32_t got = probe_check(0, 0);
+    uint64_t got_value = probe_check_value(0, 0);
+    if (got != 7) {
+        printf("probe_check, no table");
+        differ(as_answer(7), as_answer(got));
+    }
+    if (got_value != 0) {
+        printf("probe_check_value, no table, row");
+        differ(0, got_value);
+    }
+    compared.refusals[7]++;
 }

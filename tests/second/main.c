@@ -8,7 +8,8 @@ static void print_compared(void)
     printf("refused:");
     for (int refusal = 1; refusal <= MOST_REFUSAL; refusal++)
         printf("%s %lu with %d", refusal > 1 ? "," : "", compared.refusals[refusal], refusal);
-    printf("\nagreed: %lu counts, %lu indices, %lu points and every refusal\n", compared.counts, compared.indices, compared.points);
+    printf("\nagreed: %lu counts, %lu indices, %lu points, ", compared.counts, compared.indices, compared.points);
+    printf("%lu pairing tables and every refusal\n", compared.tables);
 }
 
 int main(void)
@@ -21,6 +22,7 @@ int main(void)
     compare_random();
     compare_refusals();
     compare_sums();
+    compare_tables();
     print_compared();
     return 0;
 }

@@ -1,4 +1,4 @@
-/* The calls under test, as a sender or a slate would link them. Any archive that has these three can be held to the second program.
+/* The calls under test, as a sender or a slate would link them. Any archive that has these five can be held to the second program.
    The refusal numbers and the order of checks are those of document 01, "Refusal numbers". */
 
 #ifndef SECOND_PROBE_H
@@ -17,5 +17,11 @@ uint64_t probe_index(uint64_t length, uint64_t radius, const int32_t *point, uin
 
 /* 0, and the point of the index in `out`; or the refusal number 1, 2, 3, 4, 6, and `out` as it was. */
 uint32_t probe_point(uint64_t length, uint64_t radius, uint64_t index, int32_t *out, uint64_t out_length);
+
+/* 0 for a good pairing table, else 7. */
+uint32_t probe_check(const uint8_t *table, uint64_t table_length);
+
+/* The number of places of a good pairing table, else the row that refusal 7 names. */
+uint64_t probe_check_value(const uint8_t *table, uint64_t table_length);
 
 #endif

@@ -1,5 +1,5 @@
-/* Refusals 1, 2, 3, 4 and 6 of the three calls, each together with everything that would be refused later, so that the order of
-   checks is compared too; document 01, "Refusal numbers". Refusal 5 has a file of its own, sums.c. */
+/* Refusals 1, 2, 3, 4 and 6 of the first three calls, each together with everything that would be refused later, so that the order of
+   checks is compared too; document 01, "Refusal numbers". Refusals 5 and 7 have files of their own, sums.c and tables.c. */
 
 #include "second.h"
 
@@ -23,7 +23,7 @@ static void refuse_buffer(struct shell shell, uint64_t lent, uint32_t refusal)
         expect_point_refused(shell, indices[i], lent, refusal);
 }
 
-/* All three calls, whatever the buffer. */
+/* The first three calls, whatever the buffer. */
 static void refuse_shell(struct shell shell, uint32_t refusal)
 {
     expect_count(shell, REFUSED + refusal);

@@ -9,9 +9,14 @@
 enum {
     MOST_LENGTH = 16,
     MOST_RADIUS = 32,
-    MOST_REFUSAL = 6,
+    MOST_REFUSAL = 7,
     MOST_LISTED = 100000, /* the N up to which every point of a shell is compared */
-    MOST_LENT = 32        /* the room for what a call is lent */
+    MOST_LENT = 32,       /* the room for the point that a call is lent */
+    ROW_SIZE = 16,
+    MOST_ROWS = 32,
+    MOST_RADII = 8,
+    MOST_PLACES = 4096,
+    MOST_LENT_ROWS = 38 /* the room for the pairing table that a call is lent */
 };
 
 #define TWO_TO_32 ((uint64_t)1 << 32)
@@ -22,6 +27,15 @@ enum {
 struct shell {
     uint64_t length;
     uint64_t radius;
+};
+
+/* Where the fields of a row of a pairing table begin. */
+enum { AT_LENGTH = 0, AT_NUMBER_OF_RADII = 1, AT_RADII = 2, AT_STEP = 10, AT_PLACES = 12, AT_14 = 14, AT_15 = 15 };
+
+/* A pairing table: its size in bytes, which may be any number, and the room for its bytes, of which it may leave some unused. */
+struct table {
+    uint64_t size;
+    uint8_t bytes[ROW_SIZE * MOST_LENT_ROWS];
 };
 
 /* shells.c: N, and the shells that it makes usable */
@@ -40,6 +54,7 @@ struct comparisons {
     uint64_t counts;
     uint64_t indices;
     uint64_t points;
+    uint64_t tables;
     uint64_t refusals[MOST_REFUSAL + 1];
 };
 extern struct comparisons compared;
@@ -48,6 +63,8 @@ void expect_index(struct shell shell, const int32_t *point, uint64_t point_lengt
 void expect_point(struct shell shell, uint64_t index, const int32_t *expected);
 void expect_point_refused(struct shell shell, uint64_t index, uint64_t out_length, uint32_t refusal);
 void expect_refused_without_buffer(struct shell shell, uint64_t index, uint32_t refusal);
+void expect_check(const struct table *table, uint32_t refusal, uint64_t value);
+void expect_check_without_table(void);
 void read_point(struct shell shell, uint64_t index, int32_t *point);
 _Noreturn void wrong_point(struct shell shell, uint64_t index, const int32_t *point, const char *what);
 
@@ -57,10 +74,40 @@ uint64_t range_size(struct shell shell, uint64_t s);
 uint64_t magnitude(int32_t coordinate);
 uint64_t rank(struct shell shell, const int32_t *point);
 
-/* chance.c: numbers, signs and points by chance */
+/* pairing.c: what is wrong with a pairing table, by the rules of document 01 */
+enum fault {
+    NO_BYTES,
+    PART_OF_A_ROW,
+    MORE_THAN_32_ROWS,
+    BAD_LENGTH,
+    BAD_NUMBER_OF_RADII,
+    FIRST_RADIUS_NOT_0,
+    RADIUS_NOT_LARGER,
+    RADIUS_ABOVE_32,
+    RADIUS_NOT_USABLE,
+    BEYOND_NOT_0,
+    NO_STEP,
+    NO_PLACES,
+    BYTE_14_NOT_0,
+    BYTE_15_NOT_0,
+    TOTAL_PASSED,
+    FAULTS /* how many there are */
+};
+struct judgment {
+    uint32_t faults;   /* of the size, else of the first bad row: the bit 1 << fault for each; 0 for a good table */
+    uint64_t row;      /* the first bad row; 0 for a wrong size */
+    uint64_t bad_rows; /* how many rows are bad; 0 for a wrong size */
+    uint64_t places;   /* the running total up to the first bad row, that one included, else up to the last row */
+};
+uint64_t two_bytes(const uint8_t *high);
+void set_two_bytes(uint8_t *high, uint64_t number);
+struct judgment judge(const uint8_t *bytes, uint64_t size);
+
+/* chance.c: numbers, signs, points and rows by chance */
 uint64_t chance_below(uint64_t bound);
 void sign_by_chance(const uint64_t *magnitudes, uint64_t length, int32_t *point);
 void point_by_chance(struct shell shell, int32_t *point);
+void row_by_chance(uint8_t *row);
 
 /* The comparisons, each in the file that its name says */
 void compare_examples(void);
@@ -69,5 +116,6 @@ void compare_ends(void);
 void compare_random(void);
 void compare_refusals(void);
 void compare_sums(void);
+void compare_tables(void);
 
 #endif

@@ -3,13 +3,19 @@
 use Prim.Native.Nat.{ℕ, suc, _<_}
 use mathlib.Core.Path.{_≡_, refl, sym, ap, ap₂, _∙_}
 use mathlib.Core.List.{List, [], _∷_, _++_}
-use mathlib.Core.Bool.{Bool, true, false}
+use mathlib.Core.Bool.{Bool, true, false, false≢true}
 use mathlib.Core.Logic.{inl, inr, ⊎-elim}
 use native.Mathlib.Omega.{arith}
 use Rattle.answers.specs.declared.Refusal.{Refusal}
 use Rattle.answers.specs.Refusals.{meaning}
-use Rattle.answers.specs.Checks.{Check, firstOf, leaves, pick, Refuses, Passes}
+use Rattle.answers.specs.Checks.{Check, anyOf, NoneOf, firstOf, leaves, pick, Refuses, Passes}
 use Rattle.answers.proofs.OneToOne.{meaning-begins}
+
+-- a check of several faults passes: then there is none
+pub none-of : (faults : List Bool) → anyOf faults ≡ false → NoneOf faults
+none-of [] e = tt
+none-of (true ∷ faults) e = absurd (false≢true (sym e))
+none-of (false ∷ faults) e = (refl, none-of faults e)
 
 pub refuses-says : (answer : List ℕ) (cs : List Check) (n : ℕ) (vs : List ℕ) → Refuses cs n vs → firstOf cs answer ≡ n ∷ vs
 refuses-says answer [] n vs r = absurd r

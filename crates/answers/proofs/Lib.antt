@@ -1,2 +1,3 @@
 pub mod OneToOne
 pub mod InOrder
+pub mod Each

@@ -1,8 +1,8 @@
 -- The order of checks as data (document 01, "Order of checks"): a call's checks stand in a list, in the order in which it makes them,
 -- and the first that fails gives the refusal. An answer's meaning begins with 0 and a refusal's with its number. Assumes nothing.
-use Prim.Native.Nat.{ℕ}
+use Prim.Native.Nat.{ℕ, zero, suc}
 use mathlib.Core.List.{List, [], _∷_}
-use mathlib.Core.Bool.{Bool, true, false}
+use mathlib.Core.Bool.{Bool, true, false, _||_}
 use mathlib.Core.Path.{_≡_}
 use mathlib.Core.Logic.{_⊎_}
 
@@ -11,6 +11,11 @@ pub record Check : Type 0 where
   pub number : ℕ
   pub values : List ℕ
   pub fails : Bool
+
+-- a check of several faults fails at any of them
+abbrev pub anyOf : List Bool → Bool
+anyOf [] = false
+anyOf (fault ∷ faults) = fault || anyOf faults
 
 abbrev pub pick : {A : Type 0} → Bool → A → A → A
 pick true refused rest = refused
@@ -26,12 +31,26 @@ abbrev pub leaves : {A : Type 0} → List Check → A → A → A
 leaves [] made held = made
 leaves (c ∷ cs) made held = pick (c .fails) held (leaves cs made held)
 
+-- whether each check fails
+abbrev pub failsOf : List Check → List Bool
+failsOf [] = []
+failsOf (c ∷ cs) = c .fails ∷ failsOf cs
+
+-- a check for each number from i on, n of them: so rows, coordinates and places are judged, and the lowest at fault is named
+abbrev pub eachFrom : (ℕ → Check) → ℕ → ℕ → List Check
+eachFrom c i zero = []
+eachFrom c i (suc n) = c i ∷ eachFrom c (suc i) n
+
 -- the check of number n, with these values, fails, and none before it does
 abbrev pub Refuses : List Check → ℕ → List ℕ → Type 0
 Refuses [] n vs = ⊥
 Refuses (c ∷ cs) n vs = ((c .fails ≡ true) × (c .number ≡ n) × (c .values ≡ vs)) ⊎ ((c .fails ≡ false) × Refuses cs n vs)
 
+-- none of the faults is there
+abbrev pub NoneOf : List Bool → Type 0
+NoneOf [] = Unit {0}
+NoneOf (fault ∷ faults) = (fault ≡ false) × NoneOf faults
+
 -- no check fails
 abbrev pub Passes : List Check → Type 0
-Passes [] = Unit {0}
-Passes (c ∷ cs) = (c .fails ≡ false) × Passes cs
+Passes cs = NoneOf (failsOf cs)

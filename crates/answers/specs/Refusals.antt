@@ -23,3 +23,7 @@ meaning NoSuchCoordinate = 13 ∷ []
 -- the number alone
 abbrev pub numberOf : Refusal → ℕ
 numberOf refusal = getD (meaning refusal) 0 0
+
+-- the value that it names; 0 where it names none
+abbrev pub valueOf : Refusal → ℕ
+valueOf refusal = getD (meaning refusal) 1 0

@@ -1,7 +1,7 @@
 // The refusals of document 01, "Refusal numbers": one enum for every call. A case carries what the table names in brackets, or, for the
 // tally, the place; `meaning` in specs/Refusals.antt gives each case the document's number and values.
 ghost use mathlib.Core.Path.{_≡_};
-ghost use Rattle.answers.specs.Refusals.{numberOf};
+ghost use Rattle.answers.specs.Refusals.{numberOf, valueOf};
 
 pub enum Refusal {
     // 1: length outside 1 to 16
@@ -47,5 +47,25 @@ pub fn number(refusal: Refusal) -> u32
         Refusal::BadCell => 12,
         Refusal::BadCellAt { place: _ } => 12,
         Refusal::NoSuchCoordinate => 13,
+    }
+}
+
+// The row, coordinate or place that a refusal names; 0 where it names none.
+pub fn value(refusal: Refusal) -> usize
+    ensures { λ n. ⌜ n ≡ valueOf refusal ⌝ }
+{
+    match refusal {
+        Refusal::LengthOutside => 0,
+        Refusal::RadiusAbove => 0,
+        Refusal::ShellTooLarge => 0,
+        Refusal::BufferLength => 0,
+        Refusal::MagnitudeSum => 0,
+        Refusal::IndexPastEnd => 0,
+        Refusal::BadTable { row } => row,
+        Refusal::NoSuchPlace => 0,
+        Refusal::UnusableCoefficient { coordinate } => coordinate,
+        Refusal::BadCell => 0,
+        Refusal::BadCellAt { place } => place,
+        Refusal::NoSuchCoordinate => 0,
     }
 }

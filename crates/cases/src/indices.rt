@@ -1,172 +1,81 @@
-// The cases of the calls index and point: the document's values, the first and last point of some shells, and the refusals in their order. A
-// buffer is lent full of nines, so that a refused call is seen to leave it.
-use crate::text;
+// The cases of the calls index and point. A buffer is lent full of nines, so that a refused call is seen to leave it.
+use crate::input::number;
+use crate::output;
 use counts::Length;
 use counts::Radius;
 use points::Indexed;
 use points::Pointed;
-ghost use Prim.Native.Nat.{_≤_};
 
-pub fn run() {
-    indices();
-    refused_indices();
-    read_points();
-    refused_points();
+// index L K, and the coordinates of the vector: its index.
+pub fn index(numbers: &[u64]) {
+    let mut x = [0; 32];
+    if 2 <= numbers.len() {
+        let n = numbers.len() - 2;
+        if n <= 32 {
+            index_of(numbers, &mut x[..n]);
+        }
+    }
 }
 
-fn indices() {
-    index_3(3, 2, 0, 1, 1);
-    index_3(3, 2, 1, 0, -1);
-    index_3(3, 2, -1, 0, -1);
-    index_3(3, 2, -1, -1, 0);
-    index_3(3, 2, 0, 0, 2);
-    index_3(3, 2, -2, 0, 0);
-    index_2(2, 3, 1, 2);
-    index_2(2, 3, 2, -1);
-    index_2(2, 3, -3, 0);
-    index_1(1, 5, 5);
-    index_1(1, 5, -5);
-    index_4(4, 0, 0, 0, 0, 0);
-    index_16(16, 12, 0, 1);
-    index_16(16, 12, -12, 0);
+fn index_of(numbers: &[u64], x: &mut [i32]) {
+    let mut i = 0;
+    while i < x.len() {
+        x[i] = coordinate(number(numbers, i + 2));
+        i += 1;
+    }
+    indexed(number(numbers, 0) as usize, number(numbers, 1) as usize, x);
 }
 
-fn refused_indices() {
-    index_3(0, 2, 0, 1, 1);
-    index_3(17, 33, 0, 1, 1);
-    index_2(3, 33, 0, 1);
-    index_2(16, 13, 0, 1);
-    index_2(3, 2, 0, 1);
-    index_4(3, 2, 0, 0, 0, 1);
-    index_3(3, 2, 0, 1, 0);
-    index_3(3, 2, 1, 1, -1);
-    index_1(1, 0, -2147483648);
-    index_2(2, 0, -2147483648, -2147483648);
-    index_1(1, 32, 2147483647);
-}
-
-fn read_points() {
-    point(3, 2, 0, 3);
-    point(3, 2, 5, 3);
-    point(3, 2, 7, 3);
-    point(3, 2, 11, 3);
-    point(3, 2, 12, 3);
-    point(3, 2, 17, 3);
-    point(2, 3, 0, 2);
-    point(2, 3, 5, 2);
-    point(2, 3, 11, 2);
-    point(1, 5, 0, 1);
-    point(1, 5, 1, 1);
-    point(4, 0, 0, 4);
-    point(16, 12, 0, 16);
-    point(16, 12, 3575055359, 16);
-}
-
-fn refused_points() {
-    point(3, 2, 18, 3);
-    point(4, 0, 1, 4);
-    point(16, 12, 3575055360, 16);
-    point(3, 2, 18446744073709551615, 3);
-    point(3, 2, 4294967296, 3);
-    point(3, 2, 18, 2);
-    point(3, 2, 0, 4);
-    point(3, 2, 0, 0);
-    point(16, 13, 0, 16);
-    point(16, 33, 0, 16);
-    point(17, 33, 0, 17);
-    point(0, 0, 0, 0);
-}
-
-fn shell(length: usize, radius: usize) {
-    text::words(b" of ");
-    text::number(length as u64);
-    text::words(b" ");
-    text::number(radius as u64);
-}
-
-fn index_1(length: usize, radius: usize, a: i32) {
-    index(length, radius, &[a]);
-}
-
-fn index_2(length: usize, radius: usize, a: i32, b: i32) {
-    index(length, radius, &[a, b]);
-}
-
-fn index_3(length: usize, radius: usize, a: i32, b: i32, c: i32) {
-    index(length, radius, &[a, b, c]);
-}
-
-fn index_4(length: usize, radius: usize, a: i32, b: i32, c: i32, d: i32) {
-    index(length, radius, &[a, b, c, d]);
-}
-
-// Sixteen coordinates: the first, three zeros, and twelve alike.
-fn index_16(length: usize, radius: usize, a: i32, b: i32) {
-    index(
-        length,
-        radius,
-        &[a, 0, 0, 0, b, b, b, b, b, b, b, b, b, b, b, b],
-    );
-}
-
-// One case of index: the index, or the refusal.
-fn index(length: usize, radius: usize, x: &[i32]) {
-    text::words(b"index");
-    shell(length, radius);
-    text::words(b" at");
-    coordinates(x);
+fn indexed(length: usize, radius: usize, x: &[i32]) {
     match points::index(Length(length), Radius(radius), x) {
-        Indexed::At(n) => {
-            text::words(b" is ");
-            text::number(n);
-        }
-        Indexed::Refused(refusal) => {
-            text::words(b" is refused ");
-            text::number(answers::number(refusal) as u64);
-        }
+        Indexed::At(n) => output::field(b" = 0 ", n),
+        Indexed::Refused(refusal) => output::refused(refusal),
     }
-    text::words(b"\n");
 }
 
-// One case of point, with a buffer of this size.
-fn point(length: usize, radius: usize, n: u64, size: usize)
-    requires { ⌜ size ≤ 17 ⌝ }
-{
-    let mut out = [9; 17];
-    point_into(length, radius, n, &mut out[..size]);
+// The low 32 bits as a coordinate.
+fn coordinate(n: u64) -> i32 {
+    let low = n % 4294967296;
+    if low < 2147483648 {
+        return low as i32;
+    }
+    let past = (4294967295 - low) as i32;
+    -1 - past
 }
 
-// What the buffer holds afterwards, and the refusal.
-fn point_into(length: usize, radius: usize, n: u64, out: &mut [i32]) {
-    text::words(b"point");
-    shell(length, radius);
-    text::words(b" at ");
-    text::number(n);
-    match points::point(Length(length), Radius(radius), n, out) {
-        Pointed::Written => text::words(b" is"),
-        Pointed::Refused(refusal) => {
-            text::words(b" is refused ");
-            text::number(answers::number(refusal) as u64);
-            text::words(b" and leaves");
-        }
+// point L K N B: what the call says of index N with a buffer of B coordinates, and what these are then.
+pub fn point(numbers: &[u64]) {
+    let mut out = [9; 32];
+    let size = number(numbers, 3) as usize;
+    if size <= 32 {
+        point_into(numbers, &mut out[..size]);
     }
+}
+
+fn point_into(numbers: &[u64], out: &mut [i32]) {
+    let length = number(numbers, 0) as usize;
+    let radius = number(numbers, 1) as usize;
+    match points::point(Length(length), Radius(radius), number(numbers, 2), out) {
+        Pointed::Written => output::words(b" = 0"),
+        Pointed::Refused(refusal) => output::refused(refusal),
+    }
+    output::words(b":");
     coordinates(out);
-    text::words(b"\n");
 }
 
 fn coordinates(x: &[i32]) {
     let mut at = 0;
     while at < x.len() {
-        coordinate(x[at]);
+        signed(x[at]);
         at += 1;
     }
 }
 
-fn coordinate(c: i32) {
+fn signed(c: i32) {
+    let m = product::inner::coordinate::magnitude(c);
     if c < 0 {
-        text::words(b" -");
+        output::field(b" -", m);
     } else {
-        text::words(b" ");
+        output::field(b" ", m);
     }
-    text::number(product::inner::coordinate::magnitude(c));
 }

@@ -1,10 +1,19 @@
-// Runs the cases of document 01, "Proofs of single values", through the calls, and writes what each call answered, a line a case. Its file
-// `stdout` holds what they are to answer: the document's values, and else what another program worked out.
+// Runs cases through the calls. Standard input, up to 65,536 bytes of it, has a case a line: a word that tells the call, and numbers. Each line is
+// written again, with what the call said behind it: 0 and its values, or a refusal's number and what it names. The file `stdin` has the cases
+// of document 01, "Proofs of single values", and more; the file `stdout` holds what they are to say: the document's values, and else what
+// another program worked out.
 mod indices;
+mod input;
+mod lines;
+mod output;
 mod shells;
-mod text;
+mod tables;
+
+use libc::STDIN_FILENO;
 
 fn main() {
-    shells::run();
-    indices::run();
+    let mut text = io::large_buffer();
+    let n = io::read_full(STDIN_FILENO, &mut text);
+    let mut room = io::buffer();
+    lines::run(&text[..n], &mut room);
 }

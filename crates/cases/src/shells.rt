@@ -1,55 +1,23 @@
-// The cases of the call count: N and its width, the refusals 1, 2 and 3 in their order, and how many shells there are.
-use crate::text;
+// The cases of the call count, and of the width.
+use crate::input::number;
+use crate::output;
 use counts::Length;
 use counts::Radius;
 use shell::Counted;
 
-pub fn run() {
-    one(2, 3);
-    one(3, 2);
-    one(4, 0);
-    one(16, 12);
-    one(16, 13);
-    one(0, 12);
-    one(17, 12);
-    one(16, 33);
-    one(0, 33);
-    one(17, 33);
-    one(1, 32);
-    one(8, 32);
-    one(18446744073709551615, 0);
-    one(1, 18446744073709551615);
-    one(4294967297, 4294967297);
-    every_length();
-}
-
-fn every_length() {
-    let mut length = 1;
-    while length <= 16 {
-        every_radius(length);
-        length += 1;
-    }
-}
-
-// One case: N and the width, or the refusal.
-fn one(length: usize, radius: usize) {
-    text::words(b"count ");
-    text::number(length as u64);
-    text::words(b" ");
-    text::number(radius as u64);
+// count L K: N.
+pub fn count(numbers: &[u64]) {
+    let length = number(numbers, 0) as usize;
+    let radius = number(numbers, 1) as usize;
     match shell::count(Length(length), Radius(radius)) {
-        Counted::Points(n) => {
-            text::words(b" is ");
-            text::number(n);
-            text::words(b", width ");
-            text::number(shell::width(n) as u64);
-        }
-        Counted::Refused(refusal) => {
-            text::words(b" is refused ");
-            text::number(answers::number(refusal) as u64);
-        }
+        Counted::Points(n) => output::field(b" = 0 ", n),
+        Counted::Refused(refusal) => output::refused(refusal),
     }
-    text::words(b"\n");
+}
+
+// width N: the width of this total.
+pub fn width(numbers: &[u64]) {
+    output::field(b" = ", shell::width(number(numbers, 0)) as u64);
 }
 
 struct Shells {
@@ -57,7 +25,13 @@ struct Shells {
     points: u64,
 }
 
-// How many of the radii 0 to 32 are usable at a length, and how many points those shells have in all.
+// shells L: how many of the radii 0 to 32 are usable at a length, and how many points those shells have in all.
+pub fn of_length(numbers: &[u64]) {
+    let shells = shells_of(number(numbers, 0) as usize);
+    output::field(b" = ", shells.usable);
+    output::field(b" ", shells.points);
+}
+
 fn shells_of(length: usize) -> Shells {
     let mut usable: u64 = 0;
     let mut points: u64 = 0;
@@ -70,15 +44,4 @@ fn shells_of(length: usize) -> Shells {
         radius += 1;
     }
     Shells { usable, points }
-}
-
-fn every_radius(length: usize) {
-    let shells = shells_of(length);
-    text::words(b"length ");
-    text::number(length as u64);
-    text::words(b" has ");
-    text::number(shells.usable);
-    text::words(b" usable shells of ");
-    text::number(shells.points);
-    text::words(b" points\n");
 }

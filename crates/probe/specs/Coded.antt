@@ -11,3 +11,7 @@ coded (suc n ∷ vs) = 2 ^ 40 + suc n
 
 abbrev pub numbered : List ℕ → ℕ
 numbered said = getD said 0 0
+
+-- the value that stands behind the number
+abbrev pub valued : List ℕ → ℕ
+valued said = getD said 1 0

@@ -2,8 +2,11 @@
 // itself, or 2^40 plus the refusal's number.
 use answers::Refusal;
 use answers::number;
+use answers::value;
 use counts::Length;
 use counts::Radius;
+use pairing::Checked;
+use pairing::check;
 use points::Indexed;
 use points::Pointed;
 use points::index;
@@ -13,8 +16,9 @@ use shell::count;
 ghost use mathlib.Core.Path.{_≡_};
 ghost use Rattle.shell.specs.Shell.{countSays};
 ghost use Rattle.answers.specs.Refusals.{meaning};
+ghost use Rattle.pairing.specs.Table.{checkSays};
 ghost use Rattle.points.specs.Calls.{indexSays, pointSays, pointLeaves};
-ghost use Rattle.probe.specs.Coded.{coded, numbered};
+ghost use Rattle.probe.specs.Coded.{coded, numbered, valued};
 
 // The code of a refusal.
 fn refused(refusal: Refusal) -> u64
@@ -53,5 +57,27 @@ pub extern "C" fn probe_point(length: usize, radius: usize, n: u64, out: &mut [i
     match point(Length(length), Radius(radius), n, out) {
         Pointed::Written => 0,
         Pointed::Refused(refusal) => number(refusal),
+    }
+}
+
+// The call check: 0, or the refusal's number.
+#[no_mangle]
+pub extern "C" fn probe_check(table: &[u8]) -> u32
+    ensures { λ r. ⌜ r ≡ numbered (checkSays (now (table .entry))) ⌝ }
+{
+    match check(table) {
+        Checked::Places(_) => 0,
+        Checked::Refused(refusal) => number(refusal),
+    }
+}
+
+// The value that the call check answers with: the number of places, or the row that the refusal names.
+#[no_mangle]
+pub extern "C" fn probe_check_value(table: &[u8]) -> usize
+    ensures { λ r. ⌜ r ≡ valued (checkSays (now (table .entry))) ⌝ }
+{
+    match check(table) {
+        Checked::Places(n) => n,
+        Checked::Refused(refusal) => value(refusal),
     }
 }

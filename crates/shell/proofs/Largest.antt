@@ -14,15 +14,22 @@ use Rattle.counts.proofs.Growth.{N-grows}
 use Rattle.shell.specs.Largest.{largestRadius}
 
 -- at the largest radius N is within 2^32, and past it, up to radius 32, it is not
+within : ℕ → Bool
+within l = leb (N l (largestRadius l)) (2 ^ 32)
+
+past : ℕ → Bool
+past l = leb 32 (largestRadius l) || ltb (2 ^ 32) (N l (suc (largestRadius l)))
+
+-- and it is at most 32
 right : ℕ → Bool
-right l = leb (N l (largestRadius l)) (2 ^ 32) && (leb 32 (largestRadius l) || ltb (2 ^ 32) (N l (suc (largestRadius l))))
+right l = leb (largestRadius l) 32 && within l && past l
 
 upTo : ℕ → Bool
 upTo zero = true
 upTo (suc l) = right (suc l) && upTo l
 
 all-right : upTo 16 ≡ true
-unfolding upTo right N
+unfolding upTo right within past N
 all-right = refl
 
 right-at : (n l : ℕ) → upTo n ≡ true → 1 ≤ l → l ≤ n → right l ≡ true
@@ -35,22 +42,28 @@ right-at (suc n) l e p q = go (decLe l n) (λ h. right-at n l (and-eq-true-iff (
     go (no h) rest = let same : l ≡ suc n = omega arith in rw same (and-eq-true-iff (right (suc n)) (upTo n) .0 e .0)
 
 -- what the test says at a length from 1 to 16
-at-largest : (l : ℕ) → 1 ≤ l → l ≤ 16 → N l (largestRadius l) ≤ 2 ^ 32
+told : (l : ℕ) → 1 ≤ l → l ≤ 16 → (leb (largestRadius l) 32 ≡ true) × (within l ≡ true) × (past l ≡ true)
 unfolding right
-at-largest l p q =
-    let top = largestRadius l in
-    let within = leb (N l top) (2 ^ 32) in
-    let past = leb 32 top || ltb (2 ^ 32) (N l (suc top)) in
-    leb-true (N l top) (2 ^ 32) (and-eq-true-iff within past .0 (right-at 16 l all-right p q) .0)
+told l p q =
+    let to = leb (largestRadius l) 32 in
+    let all = and-eq-true-iff (to && within l) (past l) .0 (right-at 16 l all-right p q) in
+    let two = and-eq-true-iff to (within l) .0 (all .0) in
+    (two .0, two .1, all .1)
+
+pub largest-to : (l : ℕ) → 1 ≤ l → l ≤ 16 → largestRadius l ≤ 32
+largest-to l p q = leb-true (largestRadius l) 32 (told l p q .0)
+
+at-largest : (l : ℕ) → 1 ≤ l → l ≤ 16 → N l (largestRadius l) ≤ 2 ^ 32
+unfolding within
+at-largest l p q = leb-true (N l (largestRadius l)) (2 ^ 32) (told l p q .1)
 
 past-largest : (l : ℕ) → 1 ≤ l → l ≤ 16 → largestRadius l < 32 → 2 ^ 32 < N l (suc (largestRadius l))
-unfolding right
+unfolding past
 past-largest l p q h =
     let top = largestRadius l in
-    let within = leb (N l top) (2 ^ 32) in
     let last = leb 32 top in
     let next = ltb (2 ^ 32) (N l (suc top)) in
-    let either = or-eq-true-iff last next .0 (and-eq-true-iff within (last || next) .0 (right-at 16 l all-right p q) .1) in
+    let either = or-eq-true-iff last next .0 (told l p q .2) in
     ltb-true (2 ^ 32) (N l (suc top)) (Or·elim (So-prop next) either (λ t. absurd (not-le-of-lt h (leb-true 32 top t))) (λ t. t))
 
 grows : (l j k : ℕ) → 1 ≤ l → j ≤ k → N l j ≤ N l k

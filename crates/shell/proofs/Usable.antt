@@ -1,17 +1,17 @@
 -- What the checks of a shell say, and what they tell: the refusals 1, 2 and 3 by the facts that a call finds, and that a shell which passes
 -- them is usable. Assumes nothing.
 use Prim.Native.Nat.{ℕ, _^_, _≤_, _<_}
-use mathlib.Core.Path.{_≡_, refl, sym}
+use mathlib.Core.Path.{_≡_, sym}
 use mathlib.Core.List.{List, [], _∷_}
-use mathlib.Core.Bool.{Bool, true, false, _||_, false≢true}
+use mathlib.Core.Bool.{true, false}
 use native.Mathlib.Omega.{arith}
 use lib.Dec.{ltb, lit<}
 use borrow.Author.Tests.{ltb-false, lt-ltb, le-ltb}
 use Rattle.answers.specs.Checks.{firstOf, Passes}
-use Rattle.answers.proofs.InOrder.{says-passes, passes-says}
+use Rattle.answers.proofs.InOrder.{none-of, says-passes, passes-says}
 use Rattle.counts.specs.Counts.{N}
 use Rattle.shell.specs.Largest.{largestRadius}
-use Rattle.shell.specs.Shell.{tooMany, shellChecks, IsUsable}
+use Rattle.shell.specs.Shell.{lengthOutside, tooMany, shellChecks, IsUsable}
 use Rattle.shell.proofs.Largest.{usable-up-to, unusable-past}
 
 -- refusal 3 is judged at 2^32 exactly
@@ -37,16 +37,18 @@ module _ (l k : ℕ) (answer : List ℕ) where
   pub usable-says : 1 ≤ l → l ≤ 16 → k ≤ 32 → k ≤ largestRadius l → answer ≡ firstOf (shellChecks l k) answer
   usable-says p q r h = rw (le-ltb l 1 p, le-ltb 16 l q, le-ltb 32 k r, within-limit (N l k) (usable-up-to l k p q h))
 
-neither : (a b : Bool) → (a || b) ≡ false → (a ≡ false) × (b ≡ false)
-neither true b e = absurd (false≢true (sym e))
-neither false b e = (refl, e)
+-- a length that is not refused
+pub length-inside : (l : ℕ) → lengthOutside l ≡ false → (1 ≤ l) × (l ≤ 16)
+length-inside l e =
+    let none = none-of (ltb l 1 ∷ ltb 16 l ∷ []) e in
+    (ltb-false l 1 (none .0), ltb-false 16 l (none .1 .0))
 
 pub passes-usable : (l k : ℕ) → Passes (shellChecks l k) → IsUsable l k
 passes-usable l k p =
-    let n = neither (ltb l 1) (ltb 16 l) (p .0) in
+    let inside = length-inside l (p .0) in
     record {
-      length-from = ltb-false l 1 (n .0);
-      length-to = ltb-false 16 l (n .1);
+      length-from = inside .0;
+      length-to = inside .1;
       radius-to = ltb-false 32 k (p .1 .0);
       points-to = ltb-false (2 ^ 32) (N l k) (p .1 .1 .0);
     }

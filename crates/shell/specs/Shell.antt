@@ -2,10 +2,10 @@
 -- l is the length and k the radius, any whole numbers. Assumes nothing.
 use Prim.Native.Nat.{ℕ, _≤_, _^_}
 use mathlib.Core.List.{List, [], _∷_}
-use mathlib.Core.Bool.{Bool, _||_}
+use mathlib.Core.Bool.{Bool}
 use lib.Dec.{ltb}
 use Rattle.answers.specs.Refusals.{meaning}
-use Rattle.answers.specs.Checks.{Check, firstOf}
+use Rattle.answers.specs.Checks.{Check, anyOf, firstOf}
 use Rattle.counts.specs.Counts.{N}
 use Rattle.shell.specs.declared.Shell.{Shell}
 use Rattle.shell.specs.declared.Shell.the-variants.{Usable, Unusable}
@@ -14,7 +14,7 @@ use Rattle.shell.specs.declared.Counted.the-variants.{Points, Refused}
 
 -- 1: length outside 1 to 16
 abbrev pub lengthOutside : ℕ → Bool
-lengthOutside l = ltb l 1 || ltb 16 l
+lengthOutside l = anyOf (ltb l 1 ∷ ltb 16 l ∷ [])
 
 -- 2: radius above 32
 abbrev pub radiusAbove : ℕ → Bool

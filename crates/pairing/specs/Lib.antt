@@ -1,0 +1,3 @@
+pub mod Row
+pub mod Table
+pub mod Example
