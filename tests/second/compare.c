@@ -55,7 +55,7 @@ static void print_point(const char *what, const int32_t *point, uint64_t length)
 }
 
 /* In hexadecimal, a space between rows. */
-static void print_table(const char *call, const struct table *table)
+void print_table(const char *call, const struct table *table)
 {
     printf("%s, table of %lu bytes ", call, table->size);
     for (uint64_t i = 0; i < table->size && i < sizeof table->bytes; i++)
@@ -70,7 +70,7 @@ static void print_answer(const char *what, uint64_t answer)
         printf("%s %lu", what, answer);
 }
 
-static _Noreturn void differ(uint64_t expected, uint64_t got)
+void differ(uint64_t expected, uint64_t got)
 {
     print_answer(": expected", expected);
     print_answer(", got", got);
@@ -78,19 +78,19 @@ static _Noreturn void differ(uint64_t expected, uint64_t got)
     exit(1);
 }
 
-static _Noreturn void end(const char *last_words)
+void end(const char *last_words)
 {
     printf(": %s\n", last_words);
     exit(1);
 }
 
-/* What probe_point and probe_check return, as an answer of the first two calls. */
-static uint64_t as_answer(uint32_t number)
+/* What probe_point, probe_check and probe_quantize return, as an answer of the first two calls. */
+uint64_t as_answer(uint32_t number)
 {
     return number ? REFUSED + number : 0;
 }
 
-static void note(uint64_t expected, uint64_t *kind)
+void note(uint64_t expected, uint64_t *kind)
 {
     if (expected > REFUSED)
         compared.refusals[expected - REFUSED]++;

@@ -85,3 +85,15 @@ struct judgment judge(const uint8_t *bytes, uint64_t size)
     }
     return judgment;
 }
+
+/* "Places are numbered from 0 through the rows in order": the number of rows for a place that is not in the table. */
+uint64_t row_of(const struct table *table, uint64_t place)
+{
+    uint64_t row = 0, end = 0;
+    for (; row < table->size / ROW_SIZE; row++) {
+        end += two_bytes(table->bytes + row * ROW_SIZE + AT_PLACES);
+        if (place < end)
+            break;
+    }
+    return row;
+}

@@ -1,4 +1,4 @@
-/* The calls under test, as a sender or a slate would link them. Any archive that has these five can be held to the second program.
+/* The calls under test, as a sender or a slate would link them. Any archive that has these seven can be held to the second program.
    The refusal numbers and the order of checks are those of document 01, "Refusal numbers". */
 
 #ifndef SECOND_PROBE_H
@@ -23,5 +23,13 @@ uint32_t probe_check(const uint8_t *table, uint64_t table_length);
 
 /* The number of places of a good pairing table, else the row that refusal 7 names. */
 uint64_t probe_check_value(const uint8_t *table, uint64_t table_length);
+
+/* 0, and the record in `record`; or the refusal number 7, 8, 4, 11, and `record` as it was. */
+uint32_t probe_quantize(const uint8_t *table, uint64_t table_length, uint64_t place, const float *coefficients,
+                        uint64_t coefficients_length, uint8_t *record, uint64_t record_length);
+
+/* The value that a refusal of quantize names: the row of 7, the coordinate of 11; else 0. It writes the record too. */
+uint64_t probe_quantize_value(const uint8_t *table, uint64_t table_length, uint64_t place, const float *coefficients,
+                              uint64_t coefficients_length, uint8_t *record, uint64_t record_length);
 
 #endif

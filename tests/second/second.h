@@ -9,14 +9,16 @@
 enum {
     MOST_LENGTH = 16,
     MOST_RADIUS = 32,
-    MOST_REFUSAL = 7,
+    MOST_REFUSAL = 11,
     MOST_LISTED = 100000, /* the N up to which every point of a shell is compared */
-    MOST_LENT = 32,       /* the room for the point that a call is lent */
+    MOST_LENT = 32,       /* the room for the point, or the coefficients, that a call is lent */
     ROW_SIZE = 16,
     MOST_ROWS = 32,
     MOST_RADII = 8,
     MOST_PLACES = 4096,
-    MOST_LENT_ROWS = 38 /* the room for the pairing table that a call is lent */
+    MOST_LENT_ROWS = 38, /* the room for the pairing table that a call is lent */
+    RECORD_SIZE = 8,
+    MOST_LENT_RECORD = 16 /* the room for the record that a call is lent */
 };
 
 #define TWO_TO_32 ((uint64_t)1 << 32)
@@ -38,6 +40,31 @@ struct table {
     uint8_t bytes[ROW_SIZE * MOST_LENT_ROWS];
 };
 
+/* Some f32 numbers, as their bits. */
+enum {
+    BITS_OF_1_512 = 0x3b000000,
+    BITS_BELOW_32768 = 0x46ffffff,
+    BITS_OF_32768 = 0x47000000,
+    BITS_OF_INFINITY = 0x7f800000,
+    BITS_OF_QUIET_NAN = 0x7fc00000 /* from here on; between infinity and this one, NaN is signalling */
+};
+
+/* What quantize is lent, and the place. The lengths may be any numbers; of the room for the coefficients some may be unused. */
+struct vector {
+    struct table table;
+    uint64_t place;
+    uint64_t length;                  /* of the coefficients */
+    uint32_t coefficients[MOST_LENT]; /* the bits of each f32 */
+    uint64_t record_length;
+};
+
+/* What quantize must answer. */
+struct answer {
+    uint32_t refusal; /* 0 for none */
+    uint64_t value;   /* the row of 7, the coordinate of 11, else 0 */
+    uint8_t record[RECORD_SIZE];
+};
+
 /* shells.c: N, and the shells that it makes usable */
 typedef void visit_shell(struct shell shell);
 void count_points(void);
@@ -55,6 +82,7 @@ struct comparisons {
     uint64_t indices;
     uint64_t points;
     uint64_t tables;
+    uint64_t vectors;
     uint64_t refusals[MOST_REFUSAL + 1];
 };
 extern struct comparisons compared;
@@ -67,6 +95,14 @@ void expect_check(const struct table *table, uint32_t refusal, uint64_t value);
 void expect_check_without_table(void);
 void read_point(struct shell shell, uint64_t index, int32_t *point);
 _Noreturn void wrong_point(struct shell shell, uint64_t index, const int32_t *point, const char *what);
+uint64_t as_answer(uint32_t number);
+void note(uint64_t expected, uint64_t *kind);
+void print_table(const char *call, const struct table *table);
+_Noreturn void differ(uint64_t expected, uint64_t got);
+_Noreturn void end(const char *last_words);
+
+/* compare_record.c: one comparison of quantize */
+void expect_quantize(const struct vector *vector, const struct answer *expected);
 
 /* ranking.c: the index of a point, by counting the points before it */
 void count_patterns_and_shapes(void);
@@ -102,12 +138,52 @@ struct judgment {
 uint64_t two_bytes(const uint8_t *high);
 void set_two_bytes(uint8_t *high, uint64_t number);
 struct judgment judge(const uint8_t *bytes, uint64_t size);
+uint64_t row_of(const struct table *table, uint64_t place);
 
-/* chance.c: numbers, signs, points and rows by chance */
+/* quantizing.c: the record of a vector, and the steps on the way to it */
+enum way { EXACT, DOWN, UP, HALF_DOWN, HALF_UP };
+struct rounding {
+    uint64_t whole; /* the whole number nearest to 256 times the magnitude of a coefficient */
+    enum way way;   /* that leads there */
+};
+struct quantizing {
+    struct answer answer; /* where it is a refusal, nothing is said of the steps */
+    uint64_t row;
+    uint64_t magnitudes[MOST_LENGTH]; /* a, one for each coefficient */
+    uint64_t sum;                     /* A */
+    uint64_t number;                  /* the radius number within the row */
+    struct shell shell;
+    uint64_t shares[MOST_LENGTH];     /* the whole parts of k x a / A, where k is above 0 */
+    uint64_t remainders[MOST_LENGTH]; /* and what these leave over of k x a */
+    uint64_t units;                   /* how many remainders get one more; none at radius 0 */
+    int32_t point[MOST_LENGTH];
+};
+int is_negative(uint32_t bits);
+int is_unusable(uint32_t bits);
+struct rounding nearest(uint32_t bits);
+void quantize_magnitudes(const struct vector *vector, struct quantizing *to);
+struct quantizing quantize(const struct vector *vector);
+
+/* chance.c: numbers, signs, points, rows and tables by chance */
 uint64_t chance_below(uint64_t bound);
 void sign_by_chance(const uint64_t *magnitudes, uint64_t length, int32_t *point);
 void point_by_chance(struct shell shell, int32_t *point);
-void row_by_chance(uint8_t *row);
+struct table rows_by_chance(uint64_t rows, uint64_t most);
+void aim_total(struct table *table, uint64_t number, uint64_t total);
+struct table table_by_chance(void);
+struct table good_table_by_chance(void);
+
+/* coefficients.c: vectors by chance */
+void spoil(struct vector *vector);
+void place_by_chance(struct vector *vector);
+void coefficients_by_chance(struct vector *vector);
+
+/* kinds.c: how many vectors of each kind were compared */
+void note_kinds(const struct vector *vector, const struct quantizing *made);
+void require_kinds(void);
+
+/* vectors.c: any vector, held to the program's own quantizer, whose refusal is returned */
+uint32_t compare_vector(const struct vector *vector);
 
 /* The comparisons, each in the file that its name says */
 void compare_examples(void);
@@ -117,5 +193,7 @@ void compare_random(void);
 void compare_refusals(void);
 void compare_sums(void);
 void compare_tables(void);
+void compare_vectors(void);
+void compare_checks(void);
 
 #endif

@@ -50,30 +50,6 @@ static struct judgment compare_table(const struct table *table)
     return judgment;
 }
 
-/* Good rows of at most `most` places each, often 1, 255 or 256 where `most` allows all of these. */
-static struct table good_rows(uint64_t rows, uint64_t most)
-{
-    const uint64_t ends[] = {1, 255, 256};
-    struct table table = {.size = rows * ROW_SIZE};
-    for (uint64_t number = 0; number < rows; number++) {
-        uint8_t *row = table.bytes + number * ROW_SIZE;
-        row_by_chance(row);
-        set_two_bytes(row + AT_PLACES, most >= 256 && chance_below(2) ? ends[chance_below(ENTRIES(ends))] : 1 + chance_below(most));
-    }
-    return table;
-}
-
-/* Gives one row so many places that the running total there is `total`, if a row can have so many. */
-static void aim_total(struct table *table, uint64_t number, uint64_t total)
-{
-    uint8_t *aimed = table->bytes + number * ROW_SIZE;
-    uint64_t before = 0;
-    for (const uint8_t *row = table->bytes; row < aimed; row += ROW_SIZE)
-        before += two_bytes(row + AT_PLACES);
-    if (before < total && total - before <= 65535)
-        set_two_bytes(aimed + AT_PLACES, total - before);
-}
-
 /* The whole case holds the program's own rules to the document too. */
 static void compare_whole_case(void)
 {
@@ -88,7 +64,7 @@ static void compare_sizes(void)
     expect_check_without_table();
     refused++;
     for (int run = 0; run < RUNS; run++) {
-        struct table table = good_rows(MOST_LENT_ROWS, MOST_PLACES / MOST_LENT_ROWS);
+        struct table table = rows_by_chance(MOST_LENT_ROWS, MOST_PLACES / MOST_LENT_ROWS);
         if (run % 2)
             table.bytes[ROW_SIZE * (1 + chance_below(MOST_ROWS - 1)) + AT_15] = 1;
         for (table.size = 0; table.size <= MOST_SIZE; table.size++)
@@ -100,7 +76,7 @@ static void compare_sizes(void)
 static void compare_cut_sizes(void)
 {
     const uint64_t sizes[] = {65536 + 16, 65536 + 512, TWO_TO_32 + 16, TWO_TO_32 + 512};
-    struct table table = good_rows(MOST_ROWS, MOST_PLACES / MOST_ROWS);
+    struct table table = rows_by_chance(MOST_ROWS, MOST_PLACES / MOST_ROWS);
     for (uint64_t i = 0; i < ENTRIES(sizes); i++) {
         table.size = sizes[i];
         compare_table(&table);
@@ -111,7 +87,7 @@ static void compare_cut_sizes(void)
 static void compare_changed_bytes(uint64_t rows)
 {
     for (int i = 0; i < CHANGED_TABLES; i++) {
-        struct table table = good_rows(rows, MOST_PLACES / rows);
+        struct table table = rows_by_chance(rows, MOST_PLACES / rows);
         if (i % 2)
             aim_total(&table, rows - 1, MOST_PLACES);
         own_figure("faults of a table of good rows", compare_table(&table).faults, 0);
@@ -137,33 +113,6 @@ static uint64_t compare_two_bytes(uint64_t one, uint64_t other)
         compare_table(&table);
     }
     return good - good_before;
-}
-
-/* One byte, changed to the value above or below, or to any. */
-static void change_byte(struct table *table)
-{
-    const uint64_t change[] = {1, 255, chance_below(256), chance_below(256)};
-    uint8_t *byte = table->bytes + chance_below(table->size);
-    *byte = (uint8_t)(*byte + change[chance_below(ENTRIES(change))]);
-}
-
-/* Good rows, the total often aimed at 4,096 or a little off it, or at what is below it where a number is cut to 16 bits; then none,
-   one or two bytes changed, and at times the size, by at most a row. A good row lies beyond the last one. */
-static struct table table_by_chance(void)
-{
-    const uint64_t many[] = {1, 2, 16, 17, 31, 32}, totals[] = {4095, 4096, 4097, 4098, 65536, 65537, 65536 + 4095};
-    const uint64_t rows = chance_below(4) ? 1 + chance_below(MOST_ROWS) : many[chance_below(ENTRIES(many))];
-    struct table table = good_rows(rows + 1, chance_below(2) ? MOST_PLACES / rows : 256);
-    table.size -= ROW_SIZE;
-    if (chance_below(2))
-        aim_total(&table, chance_below(4) ? rows - 1 : chance_below(rows), totals[chance_below(ENTRIES(totals))]);
-    for (uint64_t changes = chance_below(3); changes > 0; changes--)
-        change_byte(&table);
-    if (chance_below(8) == 0) {
-        const uint64_t by = 1 + chance_below(ROW_SIZE);
-        table.size = chance_below(2) ? table.size + by : table.size - by;
-    }
-    return table;
 }
 
 static void note_sorts(const struct table *table, struct judgment judgment)

@@ -2,9 +2,10 @@
 -- and the first that fails gives the refusal. An answer's meaning begins with 0 and a refusal's with its number. Assumes nothing.
 use Prim.Native.Nat.{ℕ, zero, suc}
 use mathlib.Core.List.{List, [], _∷_}
-use mathlib.Core.Bool.{Bool, true, false, _||_}
+use mathlib.Core.Bool.{Bool, true, false, not, _||_}
 use mathlib.Core.Path.{_≡_}
 use mathlib.Core.Logic.{_⊎_}
+use lib.Dec.{eqb}
 
 -- One check: the refusal number, the values named with it, and whether it is given, as the table's "given exactly when".
 pub record Check : Type 0 where
@@ -35,6 +36,10 @@ leaves (c ∷ cs) made held = pick (c .fails) held (leaves cs made held)
 abbrev pub failsOf : List Check → List Bool
 failsOf [] = []
 failsOf (c ∷ cs) = c .fails ∷ failsOf cs
+
+-- 4: a lent buffer has the wrong length; it has b elements and is to have n
+abbrev pub wrongLength : ℕ → ℕ → Bool
+wrongLength b n = not (eqb b n)
 
 -- a check for each number from i on, n of them: so rows, coordinates and places are judged, and the lowest at fault is named
 abbrev pub eachFrom : (ℕ → Check) → ℕ → ℕ → List Check

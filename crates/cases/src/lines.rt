@@ -1,4 +1,5 @@
 // The lines of the input, one after the other: each is written again, and if it is a case, it is run. The room is lent to the cases.
+use crate::coefficients;
 use crate::indices;
 use crate::input;
 use crate::output;
@@ -49,6 +50,8 @@ fn case(line: &[u8], numbers: &[u64], room: &mut [u8]) {
         b'p' => indices::point(numbers),
         b't' => tables::check(numbers, room),
         b'r' => tables::place(numbers, room),
+        b'n' => coefficients::nearest(numbers),
+        b'q' => coefficients::quantize(numbers, room),
         _ => (),
     }
 }

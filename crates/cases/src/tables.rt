@@ -40,11 +40,12 @@ fn case(table: &mut [u8], numbers: &[u64], first: usize)
     }
 }
 
-fn make(table: &mut [u8], numbers: &[u64], first: usize)
-    requires { ⌜ first < 256 ⌝ }
-{
-    fill(table, numbers, first);
-    change(table, numbers, first + 16);
+// A table, of what stands from `first` on: the row, and then the changes.
+pub fn make(table: &mut [u8], numbers: &[u64], first: usize) {
+    if first < 256 {
+        fill(table, numbers, first);
+        change(table, numbers, first + 16);
+    }
 }
 
 // The row that stands from `first` on, again and again.

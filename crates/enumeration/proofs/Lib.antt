@@ -8,3 +8,4 @@ pub mod Product
 pub mod Flips
 pub mod Steps
 pub mod Example
+pub mod Tails

@@ -65,6 +65,11 @@ back x =
     weigh-point s (length x) (radiusOf x) p h (signIndex (signsIn x)) (pattern-part x) (shape-part x) (sign-part x) (nonzeros-part x)
     ∙ parts-back x (p * S s (radiusOf x) + h)
 
+-- at radius 0 there is one point, with index 0
+pub zero-index : (l : ℕ) (x : List ℤ) → OnShell l 0 x → productIndex x ≡ 0
+unfolding N
+zero-index l x on = let below = index-below l 0 x on in omega arith
+
 pub point-of-index : (l k : ℕ) (x : List ℤ) → OnShell l k x → productPoint l k (productIndex x) ≡ x
 point-of-index l k x on = rw (← on .of-length, ← on .of-radius) (back x)
 

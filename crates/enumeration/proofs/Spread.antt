@@ -70,9 +70,10 @@ signed-nonzero : (b : Bool) (i : ℕ) → isNonzero (signed b (suc i)) ≡ true
 signed-nonzero false i = refl
 signed-nonzero true i = refl
 
-signed-magnitude : (b : Bool) (i : ℕ) → natAbs (signed b (suc i)) ≡ suc i
+pub signed-magnitude : (b : Bool) (i : ℕ) → natAbs (signed b i) ≡ i
 signed-magnitude false i = refl
-signed-magnitude true i = refl
+signed-magnitude true zero = refl
+signed-magnitude true (suc i) = refl
 
 signed-sign : (b : Bool) (i : ℕ) → isNegative (signed b (suc i)) ≡ b
 signed-sign false i = refl
@@ -84,7 +85,7 @@ more b i p bs is x m =
     let n = signed-nonzero b i in
     record {
       same-pattern = ap₂ _∷_ n (m .same-pattern);
-      same-shape = rw n (ap₂ _∷_ (signed-magnitude b i) (m .same-shape));
+      same-shape = rw n (ap₂ _∷_ (signed-magnitude b (suc i)) (m .same-shape));
       same-signs = rw n (ap₂ _∷_ (signed-sign b i) (m .same-signs));
     }
 

@@ -17,18 +17,19 @@ use Rattle.counts.specs.Counts.{N}
 use Rattle.shell.specs.Shell.{lengthOutside, shellChecks, IsUsable}
 use Rattle.shell.proofs.Usable.{length-inside, passes-usable}
 use Rattle.pairing.specs.Row.{byteOf, lengthOf, radiiOf, radiusAt, stepOf, placesOf, radiiOutside, unusable, outOfOrder, badRadius, badRadii, tailFaults, badRow, GoodRow}
-use Rattle.pairing.specs.Table.{rowsOf, RightSize, placesBefore, placesIn, passesTotal, rowCheck, tableChecks, Good, rowOf, surveySays}
+use Rattle.pairing.specs.Table.{rowsOf, RightSize, placesBefore, placesIn, passesTotal, rowCheck, tableChecks, Good, rowOf, surveySays, Surveys}
 use Rattle.pairing.proofs.Faults.{unused-says, used-says, radius-at}
+use Rattle.pairing.proofs.Places.{row-below}
 
 table-numbered : (t : List ℕ) → Numbered (tableChecks t)
 table-numbered t = (lit< tt, each-numbered (rowCheck t) 0 (rowsOf t) (λ r. lit< tt))
 
 -- a survey that answers: the table is good, and these are its places and the row of the place
-pub survey-good : (t : List ℕ) (p places row : ℕ) → 0 ∷ places ∷ row ∷ [] ≡ surveySays t p → Good t × (places ≡ placesIn t) × (row ≡ rowOf t p)
+pub survey-good : (t : List ℕ) (p places row : ℕ) → 0 ∷ places ∷ row ∷ [] ≡ surveySays t p → Surveys t p places row
 survey-good t p places row e =
     let good = says-passes (placesIn t ∷ rowOf t p ∷ []) (places ∷ row ∷ []) (tableChecks t) (table-numbered t) (sym e) in
     let said = e ∙ passes-says (0 ∷ placesIn t ∷ rowOf t p ∷ []) (tableChecks t) good in
-    (good, cc, cc)
+    record { good = good; is-places = cc; is-row = cc }
 
 pub right-size : (t : List ℕ) → Good t → RightSize t
 right-size t good =
@@ -139,3 +140,7 @@ module _ (t : List ℕ) (good : Good t) where
   unfolding placesBefore
   good-total zero h = omega arith
   good-total (suc r) h = ltb-false 4096 (placesBefore t (suc r)) (row-good r (omega arith) .1 .0)
+
+-- the row of a place of a good table
+pub good-place : (t : List ℕ) (p : ℕ) → Good t → p < placesIn t → (rowOf t p < rowsOf t) × GoodRow t (rowOf t p)
+good-place t p good h = let below = row-below t p h in (below, good-row t good (rowOf t p) below)

@@ -66,6 +66,10 @@ pub record InRow (t : List ℕ) (p r : ℕ) : Type 0 where
   pub from : placesBefore t r ≤ p
   pub to : p < placesBefore t (suc r)
 
+-- 8: place not in the table
+abbrev pub noSuchPlace : List ℕ → ℕ → Bool
+noSuchPlace t p = leb (placesIn t) p
+
 -- how many of the first n rows end before the place
 unfoldable pub rowsBefore : List ℕ → ℕ → ℕ → ℕ
 rowsBefore t p zero = 0
@@ -83,3 +87,9 @@ surveyMeaning (surveyed.Bad refusal) = meaning refusal
 
 abbrev pub surveySays : List ℕ → ℕ → List ℕ
 surveySays t p = firstOf (tableChecks t) (0 ∷ placesIn t ∷ rowOf t p ∷ [])
+
+-- what a call may take from such a survey
+pub record Surveys (t : List ℕ) (p places row : ℕ) : Type 0 where
+  pub good : Good t
+  pub is-places : places ≡ placesIn t
+  pub is-row : row ≡ rowOf t p

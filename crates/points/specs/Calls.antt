@@ -7,7 +7,7 @@ use lib.Dec.{eqb, leb}
 use lib.IntN.{ℤ}
 use lib.ListN.{length}
 use Rattle.answers.specs.Refusals.{meaning}
-use Rattle.answers.specs.Checks.{Check, firstOf, leaves}
+use Rattle.answers.specs.Checks.{Check, wrongLength, firstOf, leaves}
 use Rattle.counts.specs.Counts.{N}
 use Rattle.shell.specs.Shell.{shellChecks}
 use Rattle.enumeration.specs.Point.{radiusOf}
@@ -17,10 +17,6 @@ use Rattle.points.specs.declared.Indexed.{Indexed}
 use Rattle.points.specs.declared.Indexed.the-variants as indexed
 use Rattle.points.specs.declared.Pointed.{Pointed}
 use Rattle.points.specs.declared.Pointed.the-variants as pointed
-
--- 4: a lent buffer has the wrong length: vector or output not l
-abbrev pub wrongLength : ℕ → ℕ → Bool
-wrongLength b l = not (eqb b l)
 
 -- 5: magnitudes don't sum to k
 abbrev pub wrongSum : List ℤ → ℕ → Bool

@@ -11,13 +11,16 @@ use points::Indexed;
 use points::Pointed;
 use points::index;
 use points::point;
+use quantizer::Quantized;
+use quantizer::quantize;
 use shell::Counted;
 use shell::count;
 ghost use mathlib.Core.Path.{_≡_};
 ghost use Rattle.shell.specs.Shell.{countSays};
 ghost use Rattle.answers.specs.Refusals.{meaning};
-ghost use Rattle.pairing.specs.Table.{checkSays};
+ghost use Rattle.pairing.specs.Table.{checkMeaning, checkSays};
 ghost use Rattle.points.specs.Calls.{indexSays, pointSays, pointLeaves};
+ghost use Rattle.quantizer.specs.Calls.{quantizeMeaning, quantizeSays, quantizeLeaves};
 ghost use Rattle.probe.specs.Coded.{coded, numbered, valued};
 
 // The code of a refusal.
@@ -60,24 +63,84 @@ pub extern "C" fn probe_point(length: usize, radius: usize, n: u64, out: &mut [i
     }
 }
 
-// The call check: 0, or the refusal's number.
-#[no_mangle]
-pub extern "C" fn probe_check(table: &[u8]) -> u32
-    ensures { λ r. ⌜ r ≡ numbered (checkSays (now (table .entry))) ⌝ }
+// The number of what check answers: 0, or the refusal's.
+fn check_number(answer: Checked) -> u32
+    ensures { λ r. ⌜ r ≡ numbered (checkMeaning answer) ⌝ }
 {
-    match check(table) {
+    match answer {
         Checked::Places(_) => 0,
         Checked::Refused(refusal) => number(refusal),
     }
 }
 
-// The value that the call check answers with: the number of places, or the row that the refusal names.
+// The value of what check answers: the number of places, or the row that the refusal names.
+fn check_value(answer: Checked) -> usize
+    ensures { λ r. ⌜ r ≡ valued (checkMeaning answer) ⌝ }
+{
+    match answer {
+        Checked::Places(n) => n,
+        Checked::Refused(refusal) => value(refusal),
+    }
+}
+
+// The call check, by its number.
+#[no_mangle]
+pub extern "C" fn probe_check(table: &[u8]) -> u32
+    ensures { λ r. ⌜ r ≡ numbered (checkSays (now (table .entry))) ⌝ }
+{
+    check_number(check(table))
+}
+
+// The call check, by its value.
 #[no_mangle]
 pub extern "C" fn probe_check_value(table: &[u8]) -> usize
     ensures { λ r. ⌜ r ≡ valued (checkSays (now (table .entry))) ⌝ }
 {
-    match check(table) {
-        Checked::Places(n) => n,
-        Checked::Refused(refusal) => value(refusal),
+    check_value(check(table))
+}
+
+// The number of what quantize answers: 0, or the refusal's.
+fn quantize_number(answer: Quantized) -> u32
+    ensures { λ r. ⌜ r ≡ numbered (quantizeMeaning answer) ⌝ }
+{
+    match answer {
+        Quantized::Written => 0,
+        Quantized::Refused(refusal) => number(refusal),
     }
+}
+
+// The value of what quantize answers: the row or the coordinate that a refusal names, else 0.
+fn quantize_value(answer: Quantized) -> usize
+    ensures { λ r. ⌜ r ≡ valued (quantizeMeaning answer) ⌝ }
+{
+    match answer {
+        Quantized::Written => 0,
+        Quantized::Refused(refusal) => value(refusal),
+    }
+}
+
+// The call quantize, by its number.
+#[no_mangle]
+pub extern "C" fn probe_quantize(
+    table: &[u8],
+    place: usize,
+    coefficients: &[f32],
+    out: &mut [u8],
+) -> u32
+    ensures { λ r. ⌜ (r ≡ numbered (quantizeSays (now (table .entry)) place (now (coefficients .entry)) (now (out .entry)))) × (now (out .exit) ≡ quantizeLeaves (now (table .entry)) place (now (coefficients .entry)) (now (out .entry))) ⌝ }
+{
+    quantize_number(quantize(table, place, coefficients, out))
+}
+
+// The call quantize, by its value.
+#[no_mangle]
+pub extern "C" fn probe_quantize_value(
+    table: &[u8],
+    place: usize,
+    coefficients: &[f32],
+    out: &mut [u8],
+) -> usize
+    ensures { λ r. ⌜ (r ≡ valued (quantizeSays (now (table .entry)) place (now (coefficients .entry)) (now (out .entry)))) × (now (out .exit) ≡ quantizeLeaves (now (table .entry)) place (now (coefficients .entry)) (now (out .entry))) ⌝ }
+{
+    quantize_value(quantize(table, place, coefficients, out))
 }

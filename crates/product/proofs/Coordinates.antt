@@ -6,9 +6,6 @@ use mathlib.Core.Bool.{true, false, false≢true}
 use native.Mathlib.Omega.{arith}
 use native.Mathlib.Nat.{lt-of-le-of-lt}
 use borrow.Author.Tests.{ltb-true, le-ltb}
-use mathlib.Core.List.{List, _∷_}
-use lib.ListN.{length, drop, getD}
-use lib.Seq.{drop-cons}
 use lib.Dec.{T, lit<}
 use lib.IntN.{ℤ, pos, negsuc, natAbs, negℤ, _-ℤ_, +ℤ-idl}
 use lib.Signed.{ltZ, nonNeg, natAbs-le}
@@ -66,8 +63,3 @@ pub nonzero-value : (z : ℤ) → isNonzero z ≡ true → 0 < natAbs z
 nonzero-value (pos zero) h = absurd (false≢true h)
 nonzero-value (pos (suc n)) h = omega arith
 nonzero-value (negsuc n) h = omega arith
-
--- one coordinate more of a tail
-pub drop-back : {A : Type 0} (x : List A) (at : ℕ) (d : A) → 0 < at → at ≤ length x → drop (at - 1) x ≡ getD x (at - 1) d ∷ drop at x
-drop-back x zero d p h = absurd (omega arith)
-drop-back x (suc at) d p h = let less : suc at - 1 ≡ at = omega arith in rw less (drop-cons x at d h)

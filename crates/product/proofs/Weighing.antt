@@ -11,7 +11,7 @@ use Rattle.counts.proofs.Pascal.{S-none}
 use Rattle.enumeration.specs.Point.{OnShell, radiusOf, nonzerosIn, shapeIn}
 use Rattle.enumeration.specs.Product.{shapeIndex, weigh, productIndex}
 use Rattle.enumeration.proofs.Parts.{shape-part, nonzeros-part}
-use Rattle.enumeration.proofs.Product.{B-positive, index-below}
+use Rattle.enumeration.proofs.Product.{B-positive, index-below, zero-index}
 use Rattle.shell.specs.Shell.{IsUsable}
 use Rattle.product.specs.declared.inner.parts.Parts.{Parts}
 use Rattle.product.specs.Parts.{partsOf, weighed, Weighable}
@@ -20,10 +20,6 @@ index-weighed : (l k : ℕ) (x : List ℤ) → OnShell l k x → weighed l k (pa
 unfolding productIndex
 index-weighed l k x on = rw (on .of-length, on .of-radius)
 
-one-point : (l : ℕ) → N l 0 ≡ 1
-unfolding N
-one-point l = refl
-
 -- a point with no nonzero coordinate is that of radius 0, with index 0
 no-weight : (l k : ℕ) (x : List ℤ) → OnShell l k x → nonzerosIn x ≡ 0 → 0 ≡ productIndex x
 no-weight l k x on e = go (radiusOf x) refl
@@ -31,8 +27,7 @@ no-weight l k x on e = go (radiusOf x) refl
     go : (r : ℕ) → radiusOf x ≡ r → 0 ≡ productIndex x
     go zero z =
         let none : k ≡ 0 = sym (on .of-radius) ∙ z in
-        let below : productIndex x < N l 0 = rw none at (index-below l k x on) in
-        omega (arith, one-point l)
+        sym (zero-index l x (rw none at on))
     go (suc r) z =
         let part : shapeIndex (shapeIn x) < S 0 (suc r) = rw (e, z) at (shape-part x) in
         absurd (omega (arith, S-none r))

@@ -4,10 +4,19 @@ use Rattle.counts.specs.Counts.{N, binomial, D, S, B, sumAfter, rangeSize, rang
 use Rattle.counts.specs.Width.{width, bitsFrom}
 use Rattle.enumeration.specs.Product.{patternIndex, shapeOffset, shapeIndex, signIndex, weigh, productIndex}
 use Rattle.enumeration.specs.Reading.{rangeFrom, rangeOf, patternOf, firstMagnitude, shapeLeft, shapeOf, signsOf, pointFrom, pointIn, productPoint}
+use Rattle.floats.specs.Units.{ofPattern, unitsOf, unusable, negative}
+use Rattle.floats.specs.Nearest.{nearestWhole}
+use Rattle.pairing.specs.Row.{byteOf, badRadius, badRadii, badRow}
+use Rattle.pairing.specs.Table.{placesBefore, rowsBefore}
+use Rattle.shares.specs.Best.{firstBest}
+use Rattle.quantizer.specs.Radius.{chosenNumber}
+use Rattle.shares.specs.Shares.{largest, give, shared}
+use Rattle.records.specs.Record.{recordOf}
+use lib.Ieee.{toBits, lt}
 use Rattle.starred.specs.Table.{Table}
 
 pub proved : Table
-unfolding N binomial D S B sumAfter rangeSize rangeStart width bitsFrom patternIndex shapeOffset shapeIndex signIndex weigh productIndex rangeFrom rangeOf patternOf firstMagnitude shapeLeft shapeOf signsOf pointFrom pointIn productPoint
+unfolding N binomial D S B sumAfter rangeSize rangeStart width bitsFrom patternIndex shapeOffset shapeIndex signIndex weigh productIndex rangeFrom rangeOf patternOf firstMagnitude shapeLeft shapeOf signsOf pointFrom pointIn productPoint byteOf badRadius badRadii badRow placesBefore rowsBefore ofPattern unitsOf unusable negative nearestWhole toBits lt firstBest chosenNumber largest give shared recordOf
 proved =
     record {
       star-index-0 = refl;
@@ -39,4 +48,13 @@ proved =
       says-0-33 = refl;
       at-the-limit = refl;
       past-the-limit = refl;
+      says-beyond = refl;
+      star-quantized = refl;
+      says-written = refl;
+      record-0 = refl;
+      record-1 = refl;
+      record-kept = refl;
+      star-tie = refl;
+      past-the-tie = refl;
+      equal-remainders = refl;
     }

@@ -1,17 +1,30 @@
 -- The table of single values about the definitions: document 01, "Proofs of single values", its starred cases, a line each, with other
 -- values of the document. proofs/Proved.antt computes every line. Assumes nothing.
-use Prim.Native.Nat.{_+_, _^_}
+use Prim.Native.Nat.{ℕ, _+_, _^_}
 use mathlib.Core.Path.{_≡_}
 use mathlib.Core.Bool.{true, false}
 use mathlib.Core.List.{List, [], _∷_}
 use lib.Bits.{bitXor}
-use lib.IntN.{ℤ, pos, negℤ}
+use lib.Ieee.{Float, nan, fin}
+use lib.IntN.{ℤ, pos, negsuc, negℤ}
 use lib.ListN.{replicate}
 use Rattle.counts.specs.Counts.{N}
 use Rattle.counts.specs.Width.{width}
 use Rattle.shell.specs.Shell.{tooMany, countSays}
 use Rattle.enumeration.specs.Example.{triple}
+use Rattle.pairing.specs.Example.{wholeCase}
 use Rattle.points.specs.Calls.{indexSays, pointSays, pointLeaves}
+use Rattle.quantizer.specs.Calls.{pointFor, quantizeSays, quantizeLeaves}
+use Rattle.quantizer.specs.Radius.{chosenRadius}
+use Rattle.quantizer.specs.Points.{pointOf}
+
+-- the document's vector (1.5, 0, -0.75)
+abbrev vector : List Float
+vector = fin false 3 (negsuc 0) ∷ fin false 0 (pos 0) ∷ fin true 3 (negsuc 1) ∷ []
+
+-- a lent record
+abbrev held : List ℕ
+held = replicate 8 9
 
 -- a lent buffer of three coordinates
 abbrev buffer : List ℤ
@@ -58,3 +71,16 @@ pub record Table : Type 0 where
   -- a shell of 2^32 points is within the limit, and one of a point more is not
   pub at-the-limit : tooMany (2 ^ 32) ≡ false
   pub past-the-limit : tooMany (2 ^ 32 + 1) ≡ true
+  -- 32,768 is refused 11, and the first coordinate at fault is named
+  pub says-beyond : quantizeSays wholeCase 1 (fin true 0 (pos 0) ∷ fin false 1 (pos 15) ∷ nan ∷ []) held ≡ 11 ∷ 1 ∷ []
+  -- * row of length 3, radii 0 and 2, step 256: (1.5, 0, -0.75) gives (1,0,-1)
+  pub star-quantized : pointFor wholeCase 0 vector ≡ triple (pos 1) (pos 0) (negℤ (pos 1))
+  pub says-written : quantizeSays wholeCase 0 vector held ≡ 0 ∷ []
+  pub record-0 : quantizeLeaves wholeCase 0 vector held ≡ 0 ∷ 0 ∷ 0 ∷ 1 ∷ 0 ∷ 0 ∷ 0 ∷ 5 ∷ []
+  pub record-1 : quantizeLeaves wholeCase 1 vector held ≡ 0 ∷ 1 ∷ 0 ∷ 1 ∷ 0 ∷ 0 ∷ 0 ∷ 5 ∷ []
+  pub record-kept : quantizeLeaves wholeCase 2 vector held ≡ held
+  -- * a sum of 256 ties between radii 0 and 2: radius 0
+  pub star-tie : chosenRadius wholeCase 0 256 ≡ 0
+  pub past-the-tie : chosenRadius wholeCase 0 257 ≡ 2
+  -- length 2, radius 1, two equal positive coefficients: (1,0)
+  pub equal-remainders : pointOf 1 (fin false 1 (negsuc 0) ∷ fin false 1 (negsuc 0) ∷ []) ≡ pos 1 ∷ pos 0 ∷ []

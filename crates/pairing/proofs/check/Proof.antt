@@ -26,7 +26,7 @@ returns c =
     let e = ap surveyMeaning (sym (told .1)) ∙ c .before .before .before .survey .ensures in
     let answer : List ℕ = 0 ∷ placesIn t ∷ [] in
     let found = survey-good t 0 (told .0 .0) (told .0 .1 .0) e in
-    ap (λ (n : ℕ). 0 ∷ n ∷ []) (found .1) ∙ sym (passes-says answer (tableChecks t) (found .0))
+    ap (λ (n : ℕ). 0 ∷ n ∷ []) (found .is-places) ∙ sym (passes-says answer (tableChecks t) (found .good))
 
 returns-2 : tie.Need-returns-2
 returns-2 c =

@@ -20,7 +20,7 @@ fields-requires c κs =
     let t = a .table .now in
     let told = c .before .before .places .given in
     let said = survey-good t (a .place) (told .0 .0) (told .0 .1 .0) (ap surveyMeaning (sym (told .1)) ∙ c .before .before .before .before .survey .ensures) in
-    omega (arith, row-below t (a .place) (omega (arith, said .1)), said .2)
+    omega (arith, row-below t (a .place) (omega (arith, said .is-places)), said .is-row)
 
 slice-aggregate-field : tie.Need-slice-aggregate-field
 slice-aggregate-field c = search needs

@@ -9,7 +9,8 @@ use lib.IntN.{pos, natAbs}
 use lib.ListN.{length, drop, getD}
 use lib.Seq.{drop-length}
 use Rattle.enumeration.specs.Point.{radiusOf}
-use Rattle.product.proofs.Coordinates.{kept, drop-back}
+use Rattle.enumeration.proofs.Tails.{drop-back}
+use Rattle.product.proofs.Coordinates.{kept}
 use Rattle.product.proofs.inner.coordinate.magnitude_sum.Statement.{statement}
 use Rattle.product.proofs.inner.coordinate.magnitude_sum.Tie as tie
 

@@ -1,0 +1,26 @@
+-- `cases::coefficients::with_table` lends as much of its record as the case says. Assumes nothing.
+use borrow.Author.Needs.{needs}
+use mathlib.Core.Path.{sym}
+use native.Mathlib.Omega.{arith}
+use lib.ListN.{replicate}
+use lib.Seq.{length-take-le}
+use Rattle.cases.proofs.coefficients.with_table.Statement.{statement}
+use Rattle.cases.proofs.coefficients.with_table.Tie as tie
+
+slice-aggregate-quantized : tie.Need-slice-aggregate-quantized
+slice-aggregate-quantized c = sym (length-take-le (c .before .before .before .before .number .result) (replicate 12 9) (omega arith))
+
+pub with-table-spec : {M : Type 1} → statement M
+with-table-spec =
+    tie.close
+    (tie.spec
+    (λ c κs. search needs)
+    (λ c κs. search needs)
+    (λ c κs. search needs)
+    (λ c. search needs)
+    slice-aggregate-quantized
+    (λ c κs. search needs)
+    (λ c. search needs)
+    (λ c. search needs)
+    (λ c. search needs)
+    (λ c. search needs))

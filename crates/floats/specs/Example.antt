@@ -1,0 +1,27 @@
+-- Document 01's coefficients and the whole numbers that they become ("Proofs of single values"), by the definitions. proofs/Example.antt computes
+-- every line, so that another rounding or another limit disagrees with it. Assumes nothing.
+use Prim.Native.Nat.{ℕ, _-_, _^_}
+use mathlib.Core.Path.{_≡_}
+use mathlib.Core.Bool.{Bool, true, false}
+use lib.Ieee.{Float, fin}
+use lib.IntN.{pos, negsuc}
+use Rattle.floats.specs.Units.{unitsOf, unusable}
+use Rattle.floats.specs.Nearest.{nearestWhole}
+
+-- n / 512, negative where s is true, by an odd n
+abbrev pub over512 : Bool → ℕ → Float
+over512 s n = fin s n (negsuc 8)
+
+pub record Example : Type 0 where
+  -- 1/512 becomes 0, 3/512 becomes 2, 5/512 becomes 2
+  pub whole-1 : nearestWhole (over512 false 1) ≡ 0
+  pub whole-3 : nearestWhole (over512 false 3) ≡ 2
+  pub whole-5 : nearestWhole (over512 true 5) ≡ 2
+  -- the largest f32 below 32,768 becomes 8,388,608; 32,768 is refused
+  pub whole-largest : nearestWhole (over512 false (2 ^ 24 - 1)) ≡ 8388608
+  pub largest-usable : unusable (over512 true (2 ^ 24 - 1)) ≡ false
+  pub limit-refused : unusable (fin false 1 (pos 15)) ≡ true
+  -- both zeros give 0, and 1 is 2^149 over 2^149
+  pub zero : nearestWhole (fin false 0 (pos 0)) ≡ 0
+  pub negative-zero : nearestWhole (fin true 0 (pos 0)) ≡ 0
+  pub one : unitsOf (fin false 1 (pos 0)) ≡ 2 ^ 149

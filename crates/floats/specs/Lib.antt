@@ -1,0 +1,4 @@
+pub mod Units
+pub mod Nearest
+pub mod Exact
+pub mod Example

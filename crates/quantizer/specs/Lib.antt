@@ -1,0 +1,4 @@
+pub mod Radius
+pub mod Points
+pub mod Bounds
+pub mod Calls

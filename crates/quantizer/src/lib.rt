@@ -1,0 +1,70 @@
+// The call quantize (document 01, "Quantizing into a record"): one vector of coefficients into the record of a place. What it is made of stands
+// in `inner`.
+pub mod inner;
+
+use answers::Refusal;
+use inner::coefficients::Coefficients;
+use inner::coefficients::check_coefficients;
+use inner::record::write_record;
+use pairing::inner::row;
+use pairing::inner::survey::Surveyed;
+use pairing::inner::survey::survey;
+ghost use mathlib.Core.Path.{_≡_};
+ghost use lib.ListN.{length};
+ghost use Rattle.pairing.specs.Row.{lengthOf};
+ghost use Rattle.pairing.specs.Table.{rowsOf, Surveys};
+ghost use Rattle.quantizer.specs.Calls.{wrongLengths, quantizeMeaning, quantizeSays, quantizeSaysIn, quantizeLeaves, quantizeLeavesIn};
+ghost use Prim.Native.Nat.{_<_};
+
+pub enum Quantized {
+    Written,
+    Refused(Refusal),
+}
+
+// The call quantize: the record is written once every check has passed.
+pub fn quantize(table: &[u8], place: usize, coefficients: &[f32], out: &mut [u8]) -> Quantized
+    ensures { λ r. ⌜ (quantizeMeaning r ≡ quantizeSays (now (table .entry)) place (now (coefficients .entry)) (now (out .entry))) × (now (out .exit) ≡ quantizeLeaves (now (table .entry)) place (now (coefficients .entry)) (now (out .entry))) ⌝ }
+{
+    match survey(table, place) {
+        Surveyed::Good { places, row } => quantize_in(table, places, row, place, coefficients, out),
+        Surveyed::Bad(refusal) => Quantized::Refused(refusal),
+    }
+}
+
+// Whether the vector is not as long as the row says, or the record not 8 bytes.
+fn wrong_lengths(table: &[u8], row: usize, vector: usize, bytes: usize) -> bool
+    requires { ⌜ row < rowsOf (now table) ⌝ }
+    ensures { λ b. ⌜ b ≡ wrongLengths (lengthOf (now (table .entry)) row) vector bytes ⌝ }
+{
+    if vector != row::length(table, row).0 {
+        return true;
+    }
+    bytes != 8
+}
+
+// What quantize does with a good table: the checks 8, 4 and 11, and the work.
+fn quantize_in(
+    table: &[u8],
+    places: usize,
+    row: usize,
+    place: usize,
+    coefficients: &[f32],
+    out: &mut [u8],
+) -> Quantized
+    requires { ⌜ Surveys (now table) place places row ⌝ }
+    ensures { λ r. ⌜ (quantizeMeaning r ≡ quantizeSaysIn (now (table .entry)) place (now (coefficients .entry)) (now (out .entry))) × (now (out .exit) ≡ quantizeLeavesIn (now (table .entry)) place (now (coefficients .entry)) (now (out .entry))) ⌝ }
+{
+    if places <= place {
+        return Quantized::Refused(Refusal::NoSuchPlace);
+    }
+    if wrong_lengths(table, row, coefficients.len(), out.len()) {
+        return Quantized::Refused(Refusal::BufferLength);
+    }
+    match check_coefficients(coefficients) {
+        Coefficients::Usable => {
+            write_record(table, row, place, coefficients, out);
+            Quantized::Written
+        }
+        Coefficients::Unusable(refusal) => Quantized::Refused(refusal),
+    }
+}

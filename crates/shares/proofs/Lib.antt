@@ -1,0 +1,6 @@
+pub mod Best
+pub mod Filling
+pub mod Sums
+pub mod Giving
+pub mod Sharing
+pub mod Divided
