@@ -2,10 +2,17 @@
 
 #include "second.h"
 
+static uint64_t state = 1;
+
+/* Begins anew with a number, so that what is drawn from here on does not depend on what was drawn before. */
+void chance_from(uint64_t seed)
+{
+    state = seed;
+}
+
 /* The generator splitmix64. */
 static uint64_t chance(void)
 {
-    static uint64_t state = 1;
     state += 0x9e3779b97f4a7c15;
     uint64_t z = state;
     z = (z ^ (z >> 30)) * 0xbf58476d1ce4e5b9;

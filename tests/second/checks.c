@@ -40,7 +40,7 @@ static uint64_t places_of(const struct vector *vector)
 }
 
 /* A place past the end, or one that is in the table only where a number is cut. */
-static uint64_t wrong_place(uint64_t places)
+uint64_t wrong_place(uint64_t places)
 {
     const uint64_t place = chance_below(places);
     const uint64_t past[] = {places, places + 1, MOST_PLACES, MOST_PLACES + 1, 65535, TWO_TO_32 - 1, UINT64_MAX - 1, UINT64_MAX};
@@ -51,7 +51,7 @@ static uint64_t wrong_place(uint64_t places)
 }
 
 /* A number up to `most`, but not the right one. */
-static uint64_t other_than(uint64_t right, uint64_t most)
+uint64_t other_than(uint64_t right, uint64_t most)
 {
     const uint64_t number = chance_below(most);
     return number < right ? number : number + 1;

@@ -4,8 +4,6 @@
 
 #include "second.h"
 
-#define NEGATIVE ((uint32_t)1 << 31)
-
 enum { BELOW_2_23 = 0x007fffff };
 
 /* Magnitudes under way. */
@@ -17,7 +15,7 @@ struct parts {
 };
 
 /* The bits of m / 2^p, m below 2^24, for a p up to 100. */
-static uint32_t bits_of(uint64_t m, uint32_t p)
+uint32_t bits_of(uint64_t m, uint32_t p)
 {
     uint32_t exponent = 127 + 23 - p;
     if (m == 0)
@@ -223,14 +221,20 @@ void spoil(struct vector *vector)
 }
 
 /* A place of a good table, often of its last row, and often the first or the last place of the row. */
+uint64_t some_place(const struct table *table)
+{
+    const uint64_t rows = table->size / ROW_SIZE, number = chance_below(2) ? rows - 1 : chance_below(rows);
+    const uint8_t *row = table->bytes;
+    uint64_t first = 0;
+    for (; row < table->bytes + number * ROW_SIZE; row += ROW_SIZE)
+        first += two_bytes(row + AT_PLACES);
+    const uint64_t places = two_bytes(row + AT_PLACES), within[] = {0, places - 1, chance_below(places), chance_below(places)};
+    return first + within[chance_below(ENTRIES(within))];
+}
+
 void place_by_chance(struct vector *vector)
 {
-    const uint64_t rows = vector->table.size / ROW_SIZE, number = chance_below(2) ? rows - 1 : chance_below(rows);
-    const uint8_t *row = vector->table.bytes;
-    for (vector->place = 0; row < vector->table.bytes + number * ROW_SIZE; row += ROW_SIZE)
-        vector->place += two_bytes(row + AT_PLACES);
-    const uint64_t places = two_bytes(row + AT_PLACES), within[] = {0, places - 1, chance_below(places), chance_below(places)};
-    vector->place += within[chance_below(ENTRIES(within))];
+    vector->place = some_place(&vector->table);
 }
 
 /* Coefficients for a place of a good table, in one of eight vectors with unusable ones, and the right lengths. */
@@ -238,7 +242,7 @@ void coefficients_by_chance(struct vector *vector)
 {
     typedef void draw(const uint8_t *row, uint32_t *coefficients);
     draw *const draws[] = {draw_large, draw_tiny, draw_alike, draw_bits};
-    const uint8_t *row = vector->table.bytes + row_of(&vector->table, vector->place) * ROW_SIZE;
+    const uint8_t *row = row_at(&vector->table, vector->place);
     vector->length = row[AT_LENGTH];
     vector->record_length = RECORD_SIZE;
     (chance_below(4) ? aim : draws[chance_below(ENTRIES(draws))])(row, vector->coefficients);

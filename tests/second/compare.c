@@ -3,40 +3,26 @@
 
 #include "second.h"
 
-enum { GUARDS = 8, ROOM = GUARDS + MOST_LENT + GUARDS };
-
-/* The lent numbers begin at cells + GUARDS. */
-struct room {
-    int32_t cells[ROOM];
-};
-
-/* The lent table; what of `bytes` is beyond its size guards it too. */
-struct table_room {
-    uint8_t front[GUARDS];
-    uint8_t bytes[ROW_SIZE * MOST_LENT_ROWS];
-    uint8_t back[GUARDS];
-};
-
 struct comparisons compared;
 
 /* Numbers that no point of a shell has, all different. */
-static struct room garbage(void)
+struct point_room garbage(void)
 {
-    struct room room;
-    for (int32_t i = 0; i < ROOM; i++)
+    struct point_room room;
+    for (int32_t i = 0; i < (int32_t)ENTRIES(room.cells); i++)
         room.cells[i] = i % 2 ? 1999999973 - i : i - 1999999943;
     return room;
 }
 
-static struct room garbage_around(const int32_t *point, uint64_t length)
+struct point_room garbage_around(const int32_t *point, uint64_t length)
 {
-    struct room room = garbage();
+    struct point_room room = garbage();
     for (uint64_t i = 0; i < length && i < MOST_LENT; i++)
         room.cells[GUARDS + i] = point[i];
     return room;
 }
 
-static int same(const struct room *one, const struct room *other)
+int same_points(const struct point_room *one, const struct point_room *other)
 {
     return memcmp(one, other, sizeof *one) == 0;
 }
@@ -46,12 +32,20 @@ static void print_call(const char *call, struct shell shell, uint64_t lent)
     printf("%s, length %lu, radius %lu, buffer of %lu", call, shell.length, shell.radius, lent);
 }
 
-static void print_point(const char *what, const int32_t *point, uint64_t length)
+void print_point(const char *what, const int32_t *point, uint64_t length)
 {
     printf("%s (", what);
     for (uint64_t i = 0; i < length && i < MOST_LENT; i++)
         printf(i ? ",%d" : "%d", point[i]);
     printf(")");
+}
+
+/* In hexadecimal, a space before each. */
+void print_bytes(const char *what, const uint8_t *bytes, uint64_t size)
+{
+    printf("%s", what);
+    for (uint64_t i = 0; i < size; i++)
+        printf(" %02x", bytes[i]);
 }
 
 /* In hexadecimal, a space between rows. */
@@ -110,10 +104,10 @@ void expect_count(struct shell shell, uint64_t expected)
 
 void expect_index(struct shell shell, const int32_t *point, uint64_t point_length, uint64_t expected)
 {
-    const struct room before = garbage_around(point, point_length);
-    struct room room = before;
+    const struct point_room before = garbage_around(point, point_length);
+    struct point_room room = before;
     uint64_t got = probe_index(shell.length, shell.radius, room.cells + GUARDS, point_length);
-    if (got == expected && same(&room, &before)) {
+    if (got == expected && same_points(&room, &before)) {
         note(expected, &compared.indices);
         return;
     }
@@ -127,12 +121,12 @@ void expect_index(struct shell shell, const int32_t *point, uint64_t point_lengt
 /* The point that the call answers, which must be all that it writes. */
 void read_point(struct shell shell, uint64_t index, int32_t *point)
 {
-    struct room room = garbage();
+    struct point_room room = garbage();
     uint32_t got = probe_point(shell.length, shell.radius, index, room.cells + GUARDS, shell.length);
     for (uint64_t i = 0; i < shell.length; i++)
         point[i] = room.cells[GUARDS + i];
-    const struct room allowed = garbage_around(point, shell.length);
-    if (got == 0 && same(&room, &allowed)) {
+    const struct point_room allowed = garbage_around(point, shell.length);
+    if (got == 0 && same_points(&room, &allowed)) {
         compared.points++;
         return;
     }
@@ -169,10 +163,10 @@ void expect_point(struct shell shell, uint64_t index, const int32_t *expected)
 
 void expect_point_refused(struct shell shell, uint64_t index, uint64_t out_length, uint32_t refusal)
 {
-    const struct room before = garbage();
-    struct room room = before;
+    const struct point_room before = garbage();
+    struct point_room room = before;
     uint32_t got = probe_point(shell.length, shell.radius, index, room.cells + GUARDS, out_length);
-    if (got == refusal && same(&room, &before)) {
+    if (got == refusal && same_points(&room, &before)) {
         compared.refusals[refusal]++;
         return;
     }
@@ -200,19 +194,24 @@ void expect_refused_without_buffer(struct shell shell, uint64_t index, uint32_t 
     compared.refusals[refusal] += 2;
 }
 
-static struct table_room table_among_guards(const struct table *table)
+void set_guards(uint8_t *front, uint8_t *back)
+{
+    for (int i = 0; i < GUARDS; i++) {
+        front[i] = (uint8_t)(0x91 + i);
+        back[i] = (uint8_t)(0xe7 - i);
+    }
+}
+
+struct table_room table_among_guards(const struct table *table)
 {
     struct table_room room;
-    for (int i = 0; i < GUARDS; i++) {
-        room.front[i] = (uint8_t)(0x91 + i);
-        room.back[i] = (uint8_t)(0xe7 - i);
-    }
+    set_guards(room.front, room.back);
     for (uint64_t i = 0; i < sizeof room.bytes; i++)
         room.bytes[i] = table->bytes[i];
     return room;
 }
 
-static int same_table(const struct table_room *one, const struct table_room *other)
+int same_table(const struct table_room *one, const struct table_room *other)
 {
     return memcmp(one, other, sizeof *one) == 0;
 }

@@ -3,7 +3,7 @@
 
 #include "second.h"
 
-enum { GUARDS = 8, LENT_TABLE = ROW_SIZE * MOST_LENT_ROWS };
+enum { LENT_TABLE = ROW_SIZE * MOST_LENT_ROWS };
 
 /* All that a call is lent; what of the coefficients and of the record is beyond their lengths guards them too. The calls take the
    bits for floats; here nothing is done with a float. */
@@ -41,13 +41,6 @@ static void take_over_record(struct room *room, const struct answer *expected)
         room->record[GUARDS + i] = expected->record[i];
 }
 
-static void print_record(const char *what, const uint8_t *record)
-{
-    printf("%s", what);
-    for (uint64_t i = 0; i < RECORD_SIZE; i++)
-        printf(" %02x", record[i]);
-}
-
 /* The coefficients as bits, in hexadecimal. */
 static void print_vector(const char *call, const struct vector *vector)
 {
@@ -70,8 +63,8 @@ static void compare_rooms(const char *call, const struct vector *vector, const s
         end("something is written at the coefficients");
     if (memcmp(room->record + GUARDS, wanted->record + GUARDS, RECORD_SIZE) == 0)
         end("something is written beside the record");
-    print_record(": expected record", wanted->record + GUARDS);
-    print_record(", got", room->record + GUARDS);
+    print_bytes(": expected record", wanted->record + GUARDS, RECORD_SIZE);
+    print_bytes(", got", room->record + GUARDS, RECORD_SIZE);
     printf("\n");
     exit(1);
 }

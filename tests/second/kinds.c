@@ -144,10 +144,26 @@ static _Noreturn void too_few(uint64_t counted, uint64_t least)
     exit(1);
 }
 
-static void require(uint64_t counted, uint64_t least, const char *what)
+void require(uint64_t counted, uint64_t least, const char *things, const char *what)
 {
     if (counted < least) {
-        printf("the second program itself, vectors %s", what);
+        printf("the second program itself, %s %s", things, what);
+        too_few(counted, least);
+    }
+}
+
+void require_number(uint64_t counted, uint64_t least, const char *what, uint64_t number)
+{
+    if (counted < least) {
+        printf("the second program itself, %s %lu", what, number);
+        too_few(counted, least);
+    }
+}
+
+void require_shell(uint64_t counted, uint64_t least, const char *what, struct shell shell)
+{
+    if (counted < least) {
+        printf("the second program itself, %s of length %lu and radius %lu", what, shell.length, shell.radius);
         too_few(counted, least);
     }
 }
@@ -155,33 +171,27 @@ static void require(uint64_t counted, uint64_t least, const char *what)
 static void require_each(const uint64_t *counts, uint64_t first, uint64_t last, const char *what)
 {
     for (uint64_t number = first; number <= last; number++)
-        if (counts[number] < LEAST) {
-            printf("the second program itself, vectors %s %lu", what, number);
-            too_few(counts[number], LEAST);
-        }
+        require_number(counts[number], LEAST, what, number);
 }
 
-static void require_shell(struct shell shell)
+static void require_vectors(struct shell shell)
 {
-    if (shells[shell.length][shell.radius] < LEAST_OF_SHELL) {
-        printf("the second program itself, vectors of length %lu and radius %lu", shell.length, shell.radius);
-        too_few(shells[shell.length][shell.radius], LEAST_OF_SHELL);
-    }
+    require_shell(shells[shell.length][shell.radius], LEAST_OF_SHELL, "vectors", shell);
 }
 
 /* Ends the program unless each kind was compared often enough, and remainders had to be served in a quarter of all records. */
 void require_kinds(void)
 {
     for (int kind = 0; kind < KINDS; kind++)
-        require(kinds[kind], LEAST, names[kind]);
-    require_each(lengths, 1, MOST_LENGTH, "of length");
-    require_each(numbers, 0, MOST_RADII - 1, "of radius number");
-    require_each(rows, 0, MOST_ROWS - 1, "of row");
-    require_each(faulty, 0, MOST_LENGTH - 1, "with a first unusable coefficient at coordinate");
-    require_each(refusals, 4, 4, "refused with");
-    require_each(refusals, 7, 8, "refused with");
-    require_each(refusals, 11, 11, "refused with");
-    require(kinds[ONE_UNIT] + kinds[MORE_UNITS], refusals[0] / 4, "with a remainder that gets one more");
-    for_each_usable_shell(require_shell);
+        require(kinds[kind], LEAST, "vectors", names[kind]);
+    require_each(lengths, 1, MOST_LENGTH, "vectors of length");
+    require_each(numbers, 0, MOST_RADII - 1, "vectors of radius number");
+    require_each(rows, 0, MOST_ROWS - 1, "vectors of row");
+    require_each(faulty, 0, MOST_LENGTH - 1, "vectors with a first unusable coefficient at coordinate");
+    require_each(refusals, 4, 4, "vectors refused with");
+    require_each(refusals, 7, 8, "vectors refused with");
+    require_each(refusals, 11, 11, "vectors refused with");
+    require(kinds[ONE_UNIT] + kinds[MORE_UNITS], refusals[0] / 4, "vectors", "with a remainder that gets one more");
+    for_each_usable_shell(require_vectors);
     printf("kinds: %d kinds of vectors at least %d times each, 407 shells at least %d times each\n", KINDS, LEAST, LEAST_OF_SHELL);
 }

@@ -26,11 +26,15 @@ struct listing {
 
 static uint64_t shells_listed, points_listed;
 
-/* The point is whole: its number is its index. The program's own ranking is held to the listing too. */
+/* The point is whole: its number is its index. The program's own ranking, and its way back, are held to the listing too. */
 static void list_point(struct listing *to)
 {
+    int32_t point[MOST_LENGTH];
     expect_index(to->shell, to->point, to->shell.length, to->next);
     expect_point(to->shell, to->next, to->point);
+    point_of(to->shell, to->next, point);
+    if (memcmp(point, to->point, to->shell.length * sizeof *point) != 0)
+        own_error("its point of an index and its listing differ", to->shell);
     if (rank(to->shell, to->point) != to->next)
         own_error("its ranking and its listing differ", to->shell);
     to->next++;

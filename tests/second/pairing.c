@@ -97,3 +97,9 @@ uint64_t row_of(const struct table *table, uint64_t place)
     }
     return row;
 }
+
+/* The bytes of that row. */
+const uint8_t *row_at(const struct table *table, uint64_t place)
+{
+    return table->bytes + row_of(table, place) * ROW_SIZE;
+}

@@ -1,5 +1,5 @@
-/* The calls under test, as a sender or a slate would link them. Any archive that has these seven can be held to the second program.
-   The refusal numbers and the order of checks are those of document 01, "Refusal numbers". */
+/* The calls under test, as a sender or a slate would link them. Any archive that has these thirteen can be held to the second
+   program. The refusal numbers and the order of checks are those of document 01, "Refusal numbers". */
 
 #ifndef SECOND_PROBE_H
 #define SECOND_PROBE_H
@@ -31,5 +31,32 @@ uint32_t probe_quantize(const uint8_t *table, uint64_t table_length, uint64_t pl
 /* The value that a refusal of quantize names: the row of 7, the coordinate of 11; else 0. It writes the record too. */
 uint64_t probe_quantize_value(const uint8_t *table, uint64_t table_length, uint64_t place, const float *coefficients,
                               uint64_t coefficients_length, uint8_t *record, uint64_t record_length);
+
+/* Of the calls below, those with `which` answer a list and give its item of that number; an item past the end of the list is 0. A
+   refusal is the list of its number and what document 01 names with it: the row of 7, and in the tally the place of 12. */
+
+/* The list 0, and the record is taken into the page; or refused 7, 4, 8, 12, and the page is as it was. */
+uint64_t probe_take(const uint8_t *table, uint64_t table_length, uint8_t *page, uint64_t page_length, const uint8_t *record,
+                    uint64_t record_length, uint64_t which);
+
+/* Takes each 8 of the bytes in turn, and a shorter last part too; answers how many of these takes were refused. */
+uint64_t probe_collect(const uint8_t *table, uint64_t table_length, uint8_t *page, uint64_t page_length, const uint8_t *bytes,
+                       uint64_t bytes_length);
+
+/* The list 0, answer, reason: the answers are sound, mended, missing, contested and unreadable, from 0 on; the reason is 9, 10 or 14
+   where the place is unreadable, else 0. `out` has the point, or zeros. Or refused 7, 8, 4, 12, and `out` is as it was. */
+uint64_t probe_read(const uint8_t *table, uint64_t table_length, const uint8_t *page, uint64_t page_length, uint64_t place,
+                    int32_t *out, uint64_t out_length, uint64_t which);
+
+/* The same list for one coefficient; or refused 7, 8, 4, 13, 12. */
+uint64_t probe_coefficient(const uint8_t *table, uint64_t table_length, const uint8_t *page, uint64_t page_length, uint64_t place,
+                           uint64_t coordinate, uint64_t which);
+
+/* The value that comes with sound or mended; else positive zero. */
+float probe_coefficient_value(const uint8_t *table, uint64_t table_length, const uint8_t *page, uint64_t page_length, uint64_t place,
+                              uint64_t coordinate);
+
+/* The list 0, sound, mended, missing, contested, unreadable: how many places have each answer; or refused 7, 4, 12. */
+uint64_t probe_tally(const uint8_t *table, uint64_t table_length, const uint8_t *page, uint64_t page_length, uint64_t which);
 
 #endif

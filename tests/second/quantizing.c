@@ -112,14 +112,13 @@ static void make_point(const uint32_t *coefficients, struct quantizing *to)
 }
 
 /* "place (2), row (1), radius number within the row (1), codeword (4), high byte first". */
-static void make_record(uint64_t place, struct quantizing *to)
+void write_record(uint8_t *record, uint64_t place, uint64_t row, uint64_t number, uint64_t codeword)
 {
-    const uint64_t codeword = rank(to->shell, to->point);
-    set_two_bytes(to->answer.record, place);
-    to->answer.record[2] = (uint8_t)to->row;
-    to->answer.record[3] = (uint8_t)to->number;
-    set_two_bytes(to->answer.record + 4, codeword / 65536);
-    set_two_bytes(to->answer.record + 6, codeword % 65536);
+    set_two_bytes(record + AT_PLACE, place);
+    record[AT_ROW] = (uint8_t)row;
+    record[AT_RADIUS_NUMBER] = (uint8_t)number;
+    set_two_bytes(record + AT_CODEWORD, codeword / 65536);
+    set_two_bytes(record + AT_CODEWORD + 2, codeword % 65536);
 }
 
 /* All that follows from the magnitudes of the coefficients. */
@@ -136,7 +135,7 @@ void quantize_magnitudes(const struct vector *vector, struct quantizing *to)
         to->point[i] = 0;
     if (to->shell.radius > 0)
         make_point(vector->coefficients, to);
-    make_record(vector->place, to);
+    write_record(to->answer.record, vector->place, to->row, to->number, rank(to->shell, to->point));
 }
 
 static struct quantizing refused(uint32_t refusal, uint64_t value)

@@ -1,6 +1,6 @@
 /* Refusals 1, 2, 3, 4 and 6 of the first three calls, each together with everything that would be refused later, so that the order of
    checks is compared too; document 01, "Refusal numbers". Refusals 5 and 7 have files of their own, sums.c and tables.c;
-   those of quantize are in checks.c. */
+   those of quantize are in checks.c, and those of the page in page_checks.c. */
 
 #include "second.h"
 

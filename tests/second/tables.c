@@ -33,7 +33,7 @@ static const char *const sorts[SORTS] = {
 };
 
 /* The table of document 01, "Listing program". */
-static const struct table whole_case = {16, {3, 2, 0, 2, [AT_STEP] = 1, 0, [AT_PLACES] = 0, 2}};
+const struct table pairing_bin = {16, {3, 2, 0, 2, [AT_STEP] = 1, 0, [AT_PLACES] = 0, 2}};
 
 static uint64_t occurred[SORTS], good, refused;
 
@@ -53,7 +53,7 @@ static struct judgment compare_table(const struct table *table)
 /* The whole case holds the program's own rules to the document too. */
 static void compare_whole_case(void)
 {
-    const struct judgment judgment = compare_table(&whole_case);
+    const struct judgment judgment = compare_table(&pairing_bin);
     own_figure("faults of the table of document 01", judgment.faults, 0);
     own_figure("places of the table of document 01", judgment.places, 2);
 }
@@ -105,7 +105,7 @@ static void compare_changed_bytes(uint64_t rows)
 /* All values of two bytes of the whole case; returns how many of these tables are good. */
 static uint64_t compare_two_bytes(uint64_t one, uint64_t other)
 {
-    struct table table = whole_case;
+    struct table table = pairing_bin;
     const uint64_t good_before = good;
     for (uint64_t values = 0; values < 65536; values++) {
         table.bytes[one] = (uint8_t)(values / 256);

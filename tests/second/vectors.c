@@ -12,14 +12,11 @@ enum {
     BITS_OF_1_4 = 0x3e800000,
     BITS_OF_1_2 = 0x3f000000,
     BITS_OF_3_4 = 0x3f400000,
-    BITS_OF_1 = 0x3f800000,
     BITS_OF_257_256 = 0x3f808000,
     BITS_OF_3_2 = 0x3fc00000,
     BITS_OF_2796203_256 = 0x462aaaac,
     BITS_OF_8388607_256 = 0x46fffffe
 };
-
-#define MINUS(bits) ((uint32_t)1 << 31 | (bits))
 
 /* Each row has one place. */
 static const uint8_t telling[ROW_SIZE] = {1, 8, 0, 1, 2, 3, 4, 5, 6, 7, 0, 1, 0, 1}; /* step 1: the radius number is a, up to 7 */

@@ -3,12 +3,12 @@
 use Prim.Native.Nat.{ℕ, suc, _<_}
 use mathlib.Core.Path.{_≡_, refl, sym, ap, ap₂, _∙_}
 use mathlib.Core.List.{List, [], _∷_, _++_}
-use mathlib.Core.Bool.{Bool, true, false, false≢true}
+use mathlib.Core.Bool.{Bool, true, false, _||_, false≢true}
 use mathlib.Core.Logic.{inl, inr, ⊎-elim}
 use native.Mathlib.Omega.{arith}
 use Rattle.answers.specs.declared.Refusal.{Refusal}
 use Rattle.answers.specs.Refusals.{meaning}
-use Rattle.answers.specs.Checks.{Check, anyOf, NoneOf, firstOf, leaves, pick, Refuses, Passes}
+use Rattle.answers.specs.Checks.{Check, anyOf, NoneOf, firstOf, leaves, pick, failsOf, Refuses, Passes}
 use Rattle.answers.proofs.OneToOne.{meaning-begins}
 
 -- a check of several faults passes: then there is none
@@ -44,6 +44,33 @@ pub passes-leaves : {A : Type 0} (made held : A) (cs : List Check) → Passes cs
 passes-leaves made held [] p = refl
 passes-leaves made held (c ∷ cs) p = rw (p .0) (passes-leaves made held cs (p .1))
 
+-- whether any check fails, as one test
+pub fails-then : (cs ds : List Check) → anyOf (failsOf (cs ++ ds)) ≡ anyOf (failsOf cs) || anyOf (failsOf ds)
+fails-then [] ds = refl
+fails-then (c ∷ cs) ds = go (c .fails) (fails-then cs ds)
+  where
+    go : (b : Bool) → anyOf (failsOf (cs ++ ds)) ≡ anyOf (failsOf cs) || anyOf (failsOf ds)
+        → b || anyOf (failsOf (cs ++ ds)) ≡ b || anyOf (failsOf cs) || anyOf (failsOf ds)
+    go true rest = refl
+    go false rest = rest
+
+pub passes-fails : (cs : List Check) → Passes cs → anyOf (failsOf cs) ≡ false
+passes-fails [] p = refl
+passes-fails (c ∷ cs) p = rw (p .0) (passes-fails cs (p .1))
+
+pub refuses-fails : (cs : List Check) (n : ℕ) (vs : List ℕ) → Refuses cs n vs → anyOf (failsOf cs) ≡ true
+refuses-fails [] n vs r = absurd r
+refuses-fails (c ∷ cs) n vs r = ⊎-elim (λ h. rw (h .0)) (λ h. rw (h .0) (refuses-fails cs n vs (h .1))) r
+
+pub fails-leaves : {A : Type 0} (made held : A) (cs : List Check) → anyOf (failsOf cs) ≡ true → leaves cs made held ≡ held
+fails-leaves made held [] e = absurd (false≢true e)
+fails-leaves made held (c ∷ cs) e = go (c .fails) e (fails-leaves made held cs)
+  where
+    go : (b : Bool) → b || anyOf (failsOf cs) ≡ true → (anyOf (failsOf cs) ≡ true → leaves cs made held ≡ held)
+        → pick b held (leaves cs made held) ≡ held
+    go true h rest = refl
+    go false h rest = rest h
+
 -- every number of the list is above 0
 abbrev pub Numbered : List Check → Type 0
 Numbered [] = Unit {0}
@@ -64,6 +91,9 @@ refusal-refuses : (a : List ℕ) (cs : List Check) (r : Refusal) → meaning r �
 refusal-refuses a cs r e =
     let b = meaning-begins r in
     (b .0, b .1, b .2, says-refuses a cs (b .0) (b .1) (sym e ∙ b .2))
+
+pub refusal-fails : (a : List ℕ) (cs : List Check) (r : Refusal) → meaning r ≡ firstOf cs (0 ∷ a) → anyOf (failsOf cs) ≡ true
+refusal-fails a cs r e = let b = refusal-refuses a cs r e in refuses-fails cs (suc (b .0)) (b .1) (b .3)
 
 -- so it stands whatever the call would have answered, and leaves a lent buffer as it was
 pub refusal-stands : (a answer : List ℕ) (cs : List Check) (r : Refusal) → meaning r ≡ firstOf cs (0 ∷ a) → meaning r ≡ firstOf cs answer

@@ -76,7 +76,7 @@ fn quantized(table: &[u8], place: usize, coefficients: &[f32], out: &mut [u8]) {
     bytes(out);
 }
 
-fn bytes(out: &[u8]) {
+pub fn bytes(out: &[u8]) {
     let mut at = 0;
     while at < out.len() {
         output::field(b" ", out[at] as u64);

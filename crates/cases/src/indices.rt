@@ -63,7 +63,7 @@ fn point_into(numbers: &[u64], out: &mut [i32]) {
     coordinates(out);
 }
 
-fn coordinates(x: &[i32]) {
+pub fn coordinates(x: &[i32]) {
     let mut at = 0;
     while at < x.len() {
         signed(x[at]);

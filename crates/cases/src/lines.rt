@@ -3,6 +3,7 @@ use crate::coefficients;
 use crate::indices;
 use crate::input;
 use crate::output;
+use crate::pages;
 use crate::shells;
 use crate::tables;
 ghost use Prim.Native.Nat.{_≤_};
@@ -34,7 +35,7 @@ fn line_end(text: &[u8], from: usize) -> usize
 
 fn line(line: &[u8], room: &mut [u8]) {
     output::words(line);
-    let mut numbers = [0; 64];
+    let mut numbers = [0; 128];
     let n = input::read_numbers(line, &mut numbers);
     case(line, &numbers[..n], room);
     output::words(b"\n");
@@ -42,7 +43,8 @@ fn line(line: &[u8], room: &mut [u8]) {
 
 // The first letter of a line tells the case; any other line is a remark.
 fn case(line: &[u8], numbers: &[u64], room: &mut [u8]) {
-    match input::first(line) {
+    let letter = input::first(line);
+    match letter {
         b'c' => shells::count(numbers),
         b'w' => shells::width(numbers),
         b's' => shells::of_length(numbers),
@@ -52,6 +54,7 @@ fn case(line: &[u8], numbers: &[u64], room: &mut [u8]) {
         b'r' => tables::place(numbers, room),
         b'n' => coefficients::nearest(numbers),
         b'q' => coefficients::quantize(numbers, room),
+        b'T' | b'C' | b'R' | b'V' | b'A' => pages::run(letter, numbers, room),
         _ => (),
     }
 }

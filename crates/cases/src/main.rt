@@ -7,6 +7,7 @@ mod indices;
 mod input;
 mod lines;
 mod output;
+mod pages;
 mod shells;
 mod tables;
 

@@ -3,11 +3,11 @@
 use crate::input::number;
 use crate::output;
 use pairing::Checked;
-use pairing::inner::row;
 use pairing::inner::survey::Surveyed;
 use pairing::inner::survey::survey;
+use rows::inner::row;
 ghost use Prim.Native.Nat.{_<_};
-ghost use Rattle.pairing.specs.Table.{rowsOf};
+ghost use Rattle.rows.specs.Row.{rowsOf};
 
 // table, and then the table: its places, by the call check.
 pub fn check(numbers: &[u64], room: &mut [u8]) {

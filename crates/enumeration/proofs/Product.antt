@@ -125,7 +125,7 @@ index-of-point l k n h =
     let same = position-back s l k within (r .0) in
     rw (y .of-nonzeros, y .of-length, y .of-radius, y .of-pattern, y .of-shape, y .of-sign) (omega (arith, r .1))
 
-pub product : Enumeration
+abbrev pub product : Enumeration
 product =
     record {
       total = N;

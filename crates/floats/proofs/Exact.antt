@@ -15,7 +15,7 @@ use lib.Ieee.Fits.{down-pos, round-fits}
 use lib.Ieee.Scale.{round-same}
 use Rattle.enumeration.specs.Point.{isNegative}
 use Rattle.floats.specs.Units.{unitsOf}
-use Rattle.floats.specs.Exact.{IsOver256}
+use Rattle.floats.specs.Exact.{IsOver256, over256}
 use Rattle.floats.proofs.Value.{units-value}
 
 -- 256.0
@@ -55,16 +55,23 @@ of-value z s (fin t m e) is-sign f h = record {
   value = same-multiple (m * up e) (unitsOf (fin t m e)) (down e) (natAbs z) (2 ^ 149) (units-value t m e f) (h .1) (down-pos e);
 }
 
-quotient-is : (z : ℤ) (s : Bool) → s ≡ isNegative z → natAbs z < 2 ^ 24 → IsOver256 z (div binary32 (round binary32 s (natAbs z) 1) divisor)
+quotient-is : (z : ℤ) (s : Bool) → s ≡ isNegative z → natAbs z < 2 ^ 24 → div binary32 (round binary32 s (natAbs z) 1) divisor ≡ over256 z
+unfolding over256
 quotient-is z s is-sign h =
     let n = natAbs z in
-    rw (divided-is (round binary32 s n 1) s n (round-whole binary32 s n (le-of-lt h)))
-    (of-value z s (round binary32 s n 256) is-sign (round-fits binary32 s n 256) (quotient-exact s n h))
+    divided-is (round binary32 s n 1) s n (round-whole binary32 s n (le-of-lt h)) ∙ ap (λ (t : Bool). round binary32 t n 256) is-sign
 
-pub exact-quotient : (z : ℤ) → natAbs z < 2 ^ 24 → IsOver256 z (div binary32 (ofInt binary32 z) divisor)
+-- converted and divided
+pub quotient-says : (z : ℤ) → natAbs z < 2 ^ 24 → div binary32 (ofInt binary32 z) divisor ≡ over256 z
 unfolding ofInt
-exact-quotient (pos n) h = quotient-is (pos n) false refl h
-exact-quotient (negsuc n) h = quotient-is (negsuc n) true refl h
+quotient-says (pos n) h = quotient-is (pos n) false refl h
+quotient-says (negsuc n) h = quotient-is (negsuc n) true refl h
+
+pub exact-quotient : (z : ℤ) → natAbs z < 2 ^ 24 → IsOver256 z (over256 z)
+unfolding over256
+exact-quotient z h =
+    let n = natAbs z in
+    of-value z (isNegative z) (round binary32 (isNegative z) n 256) refl (round-fits binary32 (isNegative z) n 256) (quotient-exact (isNegative z) n h)
 
 -- the conversion loses nothing
 pub converts : (z : ℤ) → natAbs z < 2 ^ 24 → T (inFloat binary32 z)

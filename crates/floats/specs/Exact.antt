@@ -3,7 +3,7 @@
 use Prim.Native.Nat.{_*_, _^_}
 use mathlib.Core.Path.{_≡_}
 use mathlib.Core.Bool.{Bool, true, false}
-use lib.Ieee.{Float, nan, inf, fin}
+use lib.Ieee.{Float, nan, inf, fin, binary32, round}
 use lib.Ieee.Scale.{finite}
 use lib.IntN.{ℤ, natAbs}
 use Rattle.enumeration.specs.Point.{isNegative}
@@ -20,3 +20,7 @@ pub record IsOver256 (z : ℤ) (v : Float) : Type 0 where
   pub is-finite : finite v ≡ true
   pub sign : signOf v ≡ isNegative z
   pub value : 256 * unitsOf v ≡ natAbs z * 2 ^ 149
+
+-- z / 256 as f32, as operations on f32 round; for magnitudes below 2^24 proofs/Exact.antt shows that it is exact
+unfoldable pub over256 : ℤ → Float
+over256 z = round binary32 (isNegative z) (natAbs z) 256

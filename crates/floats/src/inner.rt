@@ -6,7 +6,7 @@ ghost use Prim.Native.Nat.{_^_, _≤_, _<_};
 ghost use lib.IntN.{natAbs};
 ghost use Rattle.floats.specs.Units.{unusable, negative};
 ghost use Rattle.floats.specs.Nearest.{nearestWhole};
-ghost use Rattle.floats.specs.Exact.{IsOver256};
+ghost use Rattle.floats.specs.Exact.{over256};
 
 // A NaN is neither above nor below anything, so it falls through both comparisons.
 pub fn is_unusable(x: f32) -> bool
@@ -48,7 +48,7 @@ pub fn nearest_whole(x: f32) -> u32
 // A whole number over 256. Below 2^24 neither the conversion nor the division rounds.
 pub fn over_256(z: i32) -> f32
     requires { ⌜ natAbs z < 2 ^ 24 ⌝ }
-    ensures { λ v. ⌜ IsOver256 z v ⌝ }
+    ensures { λ v. ⌜ v ≡ over256 z ⌝ }
 {
     z as f32 / 256.0
 }

@@ -1,7 +1,7 @@
 -- Every line of the example holds by computation. Assumes nothing.
 use mathlib.Core.Path.{refl}
 use Rattle.counts.specs.Counts.{N}
-use Rattle.pairing.specs.Row.{byteOf, badRadius, badRadii, badRow}
+use Rattle.rows.specs.Row.{byteOf, badRadius, badRadii, badRow}
 use Rattle.pairing.specs.Table.{placesBefore, rowsBefore}
 use Rattle.pairing.specs.Example.{Example}
 
@@ -12,17 +12,6 @@ example =
       whole-case = refl;
       two-rows = refl;
       row-alone = refl;
-      length-0 = refl;
-      length-1 = refl;
-      radii-0 = refl;
-      radii-1 = refl;
-      radius-0-1 = refl;
-      radius-1-0 = refl;
-      radius-1-2 = refl;
-      radius-1-7 = refl;
-      step-0 = refl;
-      step-1 = refl;
-      places-1 = refl;
       row-of-1 = refl;
       row-of-2 = refl;
       row-of-261 = refl;

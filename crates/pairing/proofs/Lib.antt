@@ -1,6 +1,6 @@
-pub mod Faults
 pub mod Rows
 pub mod Places
 pub mod Good
 pub mod OneToOne
 pub mod Example
+pub mod Refused

@@ -5,8 +5,8 @@ use mathlib.Core.Path.{_≡_, refl, sym, ap, _∙_}
 use mathlib.Core.List.{List}
 use native.Mathlib.Omega.{arith}
 use native.Mathlib.Decide.{decLt, decLe}
-use Rattle.pairing.specs.Row.{placesOf}
-use Rattle.pairing.specs.Table.{rowsOf, placesBefore, placesIn, InRow, rowsBefore, rowOf}
+use Rattle.rows.specs.Row.{placesOf, rowsOf}
+use Rattle.pairing.specs.Table.{placesBefore, placesIn, InRow, rowsBefore, rowOf}
 use Rattle.pairing.proofs.Rows.{total-next, ends-before, ends-after}
 
 places-grow : (t : List ℕ) (i j : ℕ) → i ≤ j → placesBefore t i ≤ placesBefore t j

@@ -9,8 +9,8 @@ use native.Mathlib.Decide.{decLe}
 use lib.ListN.{length}
 use borrow.Author.Tests.{lt-ltb, le-ltb, le-leb, lt-leb}
 use Rattle.answers.specs.Checks.{firstOf, eachFrom}
-use Rattle.pairing.specs.Row.{placesOf, badRow}
-use Rattle.pairing.specs.Table.{rowsOf, wrongSize, placesBefore, passesTotal, rowCheck, tableChecks, rowsBefore}
+use Rattle.rows.specs.Row.{placesOf, badRow, rowsOf}
+use Rattle.pairing.specs.Table.{wrongSize, placesBefore, passesTotal, rowCheck, tableChecks, rowsBefore}
 
 -- a table of the right size is judged by its rows
 pub size-passes : (t : List ℕ) → wrongSize (length t) ≡ false → (answer : List ℕ)

@@ -1,3 +1,2 @@
-pub mod Row
 pub mod Table
 pub mod Example

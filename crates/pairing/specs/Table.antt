@@ -1,6 +1,6 @@
 -- The pairing table as a whole (document 01, "Pairing table"): its rows and places, which tables are bad, what the call check says of one,
 -- and the row of a place. t is the table's bytes, any list of them. Assumes nothing.
-use Prim.Native.Nat.{ℕ, zero, suc, _+_, _*_, _/_, _%_, _≤_, _<_}
+use Prim.Native.Nat.{ℕ, zero, suc, _+_, _*_, _%_, _≤_, _<_}
 use mathlib.Core.Path.{_≡_}
 use mathlib.Core.List.{List, [], _∷_}
 use mathlib.Core.Bool.{Bool, not}
@@ -8,15 +8,11 @@ use lib.Dec.{eqb, leb, ltb}
 use lib.ListN.{length}
 use Rattle.answers.specs.Refusals.{meaning}
 use Rattle.answers.specs.Checks.{Check, anyOf, pick, firstOf, eachFrom, Passes}
-use Rattle.pairing.specs.Row.{placesOf, badRow}
+use Rattle.rows.specs.Row.{rowsOf, placesOf, badRow}
 use Rattle.pairing.specs.declared.Checked.{Checked}
 use Rattle.pairing.specs.declared.Checked.the-variants as checked
 use Rattle.pairing.specs.declared.inner.survey.Surveyed.{Surveyed}
 use Rattle.pairing.specs.declared.inner.survey.Surveyed.the-variants as surveyed
-
--- how many rows there are: 16 bytes each
-abbrev pub rowsOf : List ℕ → ℕ
-rowsOf t = length t / 16
 
 -- 1 to 32 rows, each whole
 abbrev pub wrongSize : ℕ → Bool

@@ -2,6 +2,7 @@
 -- Assumes nothing.
 use Prim.Native.Nat.{ℕ, zero, suc, _+_, _^_}
 use mathlib.Core.List.{List, [], _∷_}
+use lib.Ieee.{Float, binary32, ofBits}
 use lib.ListN.{getD}
 
 unfoldable pub coded : List ℕ → ℕ
@@ -15,3 +16,7 @@ numbered said = getD said 0 0
 -- the value that stands behind the number
 abbrev pub valued : List ℕ → ℕ
 valued said = getD said 1 0
+
+-- the zero that stands for a value that is not carried
+abbrev pub positiveZero : Float
+positiveZero = ofBits binary32 0

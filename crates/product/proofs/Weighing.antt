@@ -6,7 +6,7 @@ use mathlib.Core.List.{List}
 use native.Mathlib.Omega.{arith}
 use native.Mathlib.Nat.{mul-le-mul-left, mul-one}
 use lib.IntN.{ℤ}
-use Rattle.counts.specs.Counts.{N, S, B}
+use Rattle.counts.specs.Counts.{S, B}
 use Rattle.counts.proofs.Pascal.{S-none}
 use Rattle.enumeration.specs.Point.{OnShell, radiusOf, nonzerosIn, shapeIn}
 use Rattle.enumeration.specs.Product.{shapeIndex, weigh, productIndex}

@@ -12,7 +12,7 @@ use Rattle.enumeration.specs.Product.{productIndex}
 use Rattle.enumeration.proofs.Product.{zero-index}
 use Rattle.floats.specs.Nearest.{nearestWhole}
 use Rattle.floats.proofs.Limit.{whole-bound}
-use Rattle.pairing.specs.Row.{lengthOf, radiusAt, GoodRow}
+use Rattle.rows.specs.Row.{lengthOf, radiusAt, GoodRow}
 use Rattle.shell.specs.Shell.{IsUsable}
 use Rattle.shares.specs.Shares.{AllUpTo, Sharable, shared}
 use Rattle.quantizer.specs.Bounds.{AllUsable, Codable}

@@ -7,7 +7,7 @@ use native.Mathlib.Omega.{arith}
 use native.Mathlib.Nat.{mul-pos, zero-mul, le-refl}
 use native.Mathlib.Decide.{decLt}
 use borrow.Author.Tests.{ltb-true, ltb-false}
-use Rattle.pairing.specs.Row.{radiiOf, radiusAt, stepOf, GoodRow}
+use Rattle.rows.specs.Row.{radiiOf, radiusAt, stepOf, GoodRow}
 use Rattle.shares.specs.Best.{smaller, IsFirstBest}
 use Rattle.quantizer.specs.Radius.{missBy, chosenNumber, chosenRadius}
 use Rattle.shares.proofs.Best.{first-best, smaller-order}

@@ -14,8 +14,8 @@ use Rattle.answers.specs.declared.Refusal.{Refusal}
 use Rattle.answers.proofs.InOrder.{none-of, refusal-leaves, says-passes, passes-leaves}
 use Rattle.answers.proofs.Each.{each-passes, each-numbered}
 use Rattle.enumeration.specs.Product.{productIndex}
-use Rattle.pairing.specs.Row.{lengthOf}
-use Rattle.pairing.specs.Table.{placesIn, rowsOf, rowOf, Surveys}
+use Rattle.rows.specs.Row.{lengthOf, rowsOf}
+use Rattle.pairing.specs.Table.{placesIn, rowOf, Surveys}
 use Rattle.pairing.proofs.Good.{good-place}
 use Rattle.records.specs.Record.{recordOf}
 use Rattle.quantizer.specs.Bounds.{AllUsable, Writable}

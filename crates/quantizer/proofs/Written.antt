@@ -11,8 +11,8 @@ use Rattle.counts.specs.Counts.{N}
 use Rattle.enumeration.specs.Point.{OnShell}
 use Rattle.enumeration.specs.Product.{productIndex}
 use Rattle.enumeration.proofs.Product.{index-below}
-use Rattle.pairing.specs.Row.{lengthOf, radiiOf, GoodRow}
-use Rattle.pairing.specs.Table.{Good, placesIn, rowsOf, rowOf}
+use Rattle.rows.specs.Row.{lengthOf, radiiOf, GoodRow, rowsOf}
+use Rattle.pairing.specs.Table.{Good, placesIn, rowOf}
 use Rattle.pairing.proofs.Good.{right-size, good-total, good-place}
 use Rattle.records.specs.Record.{Holds, Fits}
 use Rattle.shell.specs.Shell.{IsUsable}

@@ -6,8 +6,7 @@ use mathlib.Core.Bool.{false}
 use lib.Ieee.{Float, nan}
 use lib.ListN.{length, getD}
 use Rattle.floats.specs.Units.{unusable}
-use Rattle.pairing.specs.Row.{lengthOf, GoodRow}
-use Rattle.pairing.specs.Table.{rowsOf}
+use Rattle.rows.specs.Row.{lengthOf, GoodRow, rowsOf}
 use Rattle.shell.specs.Shell.{IsUsable}
 use Rattle.quantizer.specs.Points.{magnitudesOf, totalOf}
 

@@ -2,7 +2,7 @@
 -- checks". t is the table's bytes, p the place, xs the coefficients; all of them any. Assumes nothing.
 use Prim.Native.Nat.{ℕ}
 use mathlib.Core.List.{List, [], _∷_, _++_}
-use mathlib.Core.Bool.{Bool, not}
+use mathlib.Core.Bool.{Bool}
 use lib.Ieee.{Float, nan}
 use lib.IntN.{ℤ}
 use lib.ListN.{length, getD}
@@ -10,7 +10,7 @@ use Rattle.answers.specs.Refusals.{meaning}
 use Rattle.answers.specs.Checks.{Check, anyOf, wrongLength, firstOf, leaves, eachFrom}
 use Rattle.enumeration.specs.Product.{productIndex}
 use Rattle.floats.specs.Units.{unusable}
-use Rattle.pairing.specs.Row.{lengthOf}
+use Rattle.rows.specs.Row.{lengthOf}
 use Rattle.pairing.specs.Table.{tableChecks, noSuchPlace, rowOf}
 use Rattle.records.specs.Record.{recordOf}
 use Rattle.quantizer.specs.Radius.{chosenNumber, chosenRadius}

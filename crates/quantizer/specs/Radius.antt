@@ -3,7 +3,7 @@
 use Prim.Native.Nat.{ℕ, _-_, _*_}
 use mathlib.Core.List.{List}
 use Rattle.floats.specs.Nearest.{gap}
-use Rattle.pairing.specs.Row.{radiiOf, radiusAt, stepOf}
+use Rattle.rows.specs.Row.{radiiOf, radiusAt, stepOf}
 use Rattle.shares.specs.Best.{firstBest, smaller}
 
 -- |A - k x step| for the radius of a radius number

@@ -6,13 +6,12 @@ use answers::Refusal;
 use inner::coefficients::Coefficients;
 use inner::coefficients::check_coefficients;
 use inner::record::write_record;
-use pairing::inner::row;
 use pairing::inner::survey::Surveyed;
 use pairing::inner::survey::survey;
+use rows::inner::row;
 ghost use mathlib.Core.Path.{_≡_};
-ghost use lib.ListN.{length};
-ghost use Rattle.pairing.specs.Row.{lengthOf};
-ghost use Rattle.pairing.specs.Table.{rowsOf, Surveys};
+ghost use Rattle.rows.specs.Row.{lengthOf, rowsOf};
+ghost use Rattle.pairing.specs.Table.{Surveys};
 ghost use Rattle.quantizer.specs.Calls.{wrongLengths, quantizeMeaning, quantizeSays, quantizeSaysIn, quantizeLeaves, quantizeLeavesIn};
 ghost use Prim.Native.Nat.{_<_};
 

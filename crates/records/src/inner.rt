@@ -1,8 +1,8 @@
-// A record's fields written into its bytes.
+// A record's fields, written into its bytes and read from them.
 ghost use mathlib.Core.Path.{_≡_};
-ghost use Prim.Native.Nat.{_%_};
-ghost use lib.ListN.{length};
-ghost use Rattle.records.specs.Record.{recordOf};
+ghost use Prim.Native.Nat.{_%_, _^_, _<_};
+ghost use lib.ListN.{length, getD};
+ghost use Rattle.records.specs.Record.{recordOf, placeIn, rowIn, numberIn, codewordIn};
 
 // The low byte of a number.
 fn low_byte(n: u64) -> u8
@@ -23,4 +23,42 @@ pub fn write(place: u64, row: u64, number: u64, codeword: u64, out: &mut [u8])
     out[5] = low_byte(codeword / 65536);
     out[6] = low_byte(codeword / 256);
     out[7] = low_byte(codeword);
+}
+
+fn byte(bytes: &[u8], at: usize) -> usize
+    requires { ⌜ at < length (now bytes) ⌝ }
+    ensures { λ b. ⌜ (b ≡ getD (now (bytes .entry)) at 0) × (b < 256) ⌝ }
+{
+    bytes[at] as usize
+}
+
+pub fn place_in(bytes: &[u8]) -> usize
+    requires { ⌜ length (now bytes) ≡ 8 ⌝ }
+    ensures { λ n. ⌜ (n ≡ placeIn (now (bytes .entry))) × (n < 65536) ⌝ }
+{
+    256 * byte(bytes, 0) + byte(bytes, 1)
+}
+
+pub fn row_in(bytes: &[u8]) -> usize
+    requires { ⌜ length (now bytes) ≡ 8 ⌝ }
+    ensures { λ n. ⌜ (n ≡ rowIn (now (bytes .entry))) × (n < 256) ⌝ }
+{
+    byte(bytes, 2)
+}
+
+// The radius number.
+pub fn number_in(bytes: &[u8]) -> usize
+    requires { ⌜ length (now bytes) ≡ 8 ⌝ }
+    ensures { λ n. ⌜ (n ≡ numberIn (now (bytes .entry))) × (n < 256) ⌝ }
+{
+    byte(bytes, 3)
+}
+
+pub fn codeword_in(bytes: &[u8]) -> u64
+    requires { ⌜ length (now bytes) ≡ 8 ⌝ }
+    ensures { λ n. ⌜ (n ≡ codewordIn (now (bytes .entry))) × (n < 2 ^ 32) ⌝ }
+{
+    let high = 256 * byte(bytes, 4) + byte(bytes, 5);
+    let low = 256 * byte(bytes, 6) + byte(bytes, 7);
+    (65536 * high + low) as u64
 }

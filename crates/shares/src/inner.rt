@@ -1,7 +1,7 @@
 // The radius shared out among the coordinates by largest remainders.
 ghost use mathlib.Core.Path.{_≡_};
 ghost use mathlib.Core.List.{map};
-ghost use Prim.Native.Nat.{_+_, _*_, _≤_, _<_, _^_};
+ghost use Prim.Native.Nat.{_+_, _≤_, _<_, _^_};
 ghost use lib.ListN.{length};
 ghost use Rattle.enumeration.specs.Point.{sumOf};
 ghost use Rattle.shares.specs.Shares.{AllUpTo, Sharable};

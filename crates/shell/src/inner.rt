@@ -4,7 +4,7 @@ use counts::Radius;
 use patterns::inner::pattern_count;
 use shapes::inner::shape_count;
 ghost use mathlib.Core.Path.{_≡_};
-ghost use Prim.Native.Nat.{_≤_, _<_};
+ghost use Prim.Native.Nat.{_^_, _≤_, _<_};
 ghost use Rattle.counts.specs.Counts as counted;
 ghost use Rattle.counts.specs.Counts.{N, B, R, O};
 ghost use Rattle.shell.specs.Largest.{largestRadius};
@@ -37,12 +37,20 @@ pub fn largest_radius(length: Length) -> usize
     }
 }
 
+// 2^b.
+pub fn power(b: usize) -> u64
+    requires { ⌜ b < 64 ⌝ }
+    ensures { λ r. ⌜ r ≡ 2 ^ b ⌝ }
+{
+    1 << b
+}
+
 // The sign count 2^s.
 pub fn sign_count(s: usize) -> u64
     requires { ⌜ s < 64 ⌝ }
     ensures { λ r. ⌜ r ≡ B s ⌝ }
 {
-    1 << s
+    power(s)
 }
 
 // The largest number m of nonzero coordinates, the smaller of l and k.

@@ -6,7 +6,7 @@ use Rattle.enumeration.specs.Product.{patternIndex, shapeOffset, shapeIndex, si
 use Rattle.enumeration.specs.Reading.{rangeFrom, rangeOf, patternOf, firstMagnitude, shapeLeft, shapeOf, signsOf, pointFrom, pointIn, productPoint}
 use Rattle.floats.specs.Units.{ofPattern, unitsOf, unusable, negative}
 use Rattle.floats.specs.Nearest.{nearestWhole}
-use Rattle.pairing.specs.Row.{byteOf, badRadius, badRadii, badRow}
+use Rattle.rows.specs.Row.{byteOf, badRadius, badRadii, badRow}
 use Rattle.pairing.specs.Table.{placesBefore, rowsBefore}
 use Rattle.shares.specs.Best.{firstBest}
 use Rattle.quantizer.specs.Radius.{chosenNumber}

@@ -12,7 +12,7 @@ use Rattle.counts.specs.Counts.{N}
 use Rattle.counts.specs.Width.{width}
 use Rattle.shell.specs.Shell.{tooMany, countSays}
 use Rattle.enumeration.specs.Example.{triple}
-use Rattle.pairing.specs.Example.{wholeCase}
+use Rattle.rows.specs.Example.{wholeCase}
 use Rattle.points.specs.Calls.{indexSays, pointSays, pointLeaves}
 use Rattle.quantizer.specs.Calls.{pointFor, quantizeSays, quantizeLeaves}
 use Rattle.quantizer.specs.Radius.{chosenRadius}

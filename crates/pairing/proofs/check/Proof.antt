@@ -23,9 +23,8 @@ returns : tie.Need-returns
 returns c =
     let t = c .before .before .before .before .before .args .table .now in
     let told = c .before .places .given in
-    let e = ap surveyMeaning (sym (told .1)) ∙ c .before .before .before .survey .ensures in
     let answer : List ℕ = 0 ∷ placesIn t ∷ [] in
-    let found = survey-good t 0 (told .0 .0) (told .0 .1 .0) e in
+    let found = survey-good t 0 (told .1) (c .before .before .before .survey .ensures) in
     ap (λ (n : ℕ). 0 ∷ n ∷ []) (found .is-places) ∙ sym (passes-says answer (tableChecks t) (found .good))
 
 returns-2 : tie.Need-returns-2

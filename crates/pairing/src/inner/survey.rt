@@ -1,8 +1,8 @@
 // One pass over the rows of a table: it judges every row, adds up the places and finds the row of a place on the way, so that a call
 // which is given a table and a place goes over the rows once.
-use crate::inner::fault::bad_row;
-use crate::inner::row;
 use answers::Refusal;
+use rows::inner::fault::bad_row;
+use rows::inner::row;
 ghost use mathlib.Core.Path.{_≡_};
 ghost use Rattle.pairing.specs.Table.{wrongSize, surveyMeaning, surveySays};
 ghost use lib.ListN.{length};

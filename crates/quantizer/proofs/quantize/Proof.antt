@@ -1,12 +1,12 @@
 -- `quantizer::quantize` says what the call quantize is to say and leaves what it is to leave: a refusal of the checks of the table, and the record as it
 -- was; or else what is said and left for a good table. Assumes nothing.
-use Prim.Native.Nat.{ℕ}
-use mathlib.Core.Path.{sym, ap, _∙_}
-use mathlib.Core.List.{List, [], _∷_}
+use mathlib.Core.Path.{_∙_}
+use mathlib.Core.List.{[], _∷_}
 use lib.ListN.{length}
-use Rattle.answers.proofs.InOrder.{refused-says, refused-leaves, passed-says, passed-leaves}
-use Rattle.pairing.specs.Table.{placesIn, rowOf, tableChecks, surveyMeaning}
+use Rattle.answers.proofs.InOrder.{passed-says, passed-leaves}
+use Rattle.pairing.specs.Table.{tableChecks}
 use Rattle.pairing.proofs.Good.{survey-good}
+use Rattle.pairing.proofs.Refused.{table-says, table-leaves}
 use Rattle.quantizer.specs.Calls.{quantizeRest, recordFor}
 use borrow.Author.Needs.{needs}
 use Rattle.quantizer.proofs.quantize.Statement.{statement}
@@ -22,7 +22,7 @@ quantize-in-requires : tie.Need-quantize-in-requires
 quantize-in-requires c κs =
     let a = c .before .before .before .before .before .before .before .before .args in
     let told = c .before .before .places .given in
-    survey-good (a .table .now) (a .place) (told .0 .0) (told .0 .1 .0) (ap surveyMeaning (sym (told .1)) ∙ c .before .before .before .before .survey .ensures)
+    survey-good (a .table .now) (a .place) (told .1) (c .before .before .before .before .survey .ensures)
 
 enum-known-refusal : tie.Need-enum-known-refusal
 enum-known-refusal c = search needs
@@ -37,7 +37,7 @@ returns c =
     let xs = a .coefficients .now in
     let held = a .out .now in
     let told = c .before .before .before .before .before .places .given in
-    let good = survey-good t (a .place) (told .0 .0) (told .0 .1 .0) (ap surveyMeaning (sym (told .1)) ∙ c .before .before .before .before .before .before .before .survey .ensures) .good in
+    let good = survey-good t (a .place) (told .1) (c .before .before .before .before .before .before .before .survey .ensures) .good in
     let rest = quantizeRest t (a .place) xs (length held) in
     let did = c .before .before .quantize-in .ensures in
     (did .0 ∙ passed-says (tableChecks t) rest (0 ∷ []) good, did .1 ∙ passed-leaves (tableChecks t) rest (recordFor t (a .place) xs) held good)
@@ -49,10 +49,9 @@ returns-2 c =
     let xs = a .coefficients .now in
     let held = a .out .now in
     let told = c .before .refusal .given in
-    let answer : List ℕ = placesIn t ∷ rowOf t (a .place) ∷ [] in
-    let said = ap surveyMeaning (sym (told .1)) ∙ c .before .before .before .survey .ensures in
+    let says = c .before .before .before .survey .ensures in
     let rest = quantizeRest t (a .place) xs (length held) in
-    (refused-says (tableChecks t) rest answer (0 ∷ []) (told .0 .0) said, refused-leaves (tableChecks t) rest (recordFor t (a .place) xs) held answer (told .0 .0) said)
+    (table-says t (a .place) (told .1) says rest (0 ∷ []), table-leaves t (a .place) (told .1) says rest (recordFor t (a .place) xs) held)
 
 pub quantize-spec : {M : Type 1} → statement M
 quantize-spec =

@@ -1,10 +1,9 @@
 // The choice of the radius.
-use pairing::inner::row;
+use rows::inner::row;
 ghost use mathlib.Core.Path.{_≡_};
 ghost use Prim.Native.Nat.{_≤_, _<_};
 ghost use Rattle.floats.specs.Nearest.{gap};
-ghost use Rattle.pairing.specs.Row.{radiiOf};
-ghost use Rattle.pairing.specs.Table.{rowsOf};
+ghost use Rattle.rows.specs.Row.{radiiOf, rowsOf};
 ghost use Rattle.quantizer.specs.Radius.{missBy, chosenNumber};
 
 // |A - k x step|, `reach` being k x step.

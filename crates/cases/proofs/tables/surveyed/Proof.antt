@@ -1,7 +1,5 @@
 -- `cases::tables::surveyed` asks for the fields of a row of the table: the survey says which row is the place's. Assumes nothing.
-use mathlib.Core.Path.{sym, ap, _∙_}
 use native.Mathlib.Omega.{arith}
-use Rattle.pairing.specs.Table.{surveyMeaning}
 use Rattle.pairing.proofs.Good.{survey-good}
 use Rattle.pairing.proofs.Places.{row-below}
 use borrow.Author.Needs.{needs}
@@ -19,7 +17,7 @@ fields-requires c κs =
     let a = c .before .before .before .before .before .before .args in
     let t = a .table .now in
     let told = c .before .before .places .given in
-    let said = survey-good t (a .place) (told .0 .0) (told .0 .1 .0) (ap surveyMeaning (sym (told .1)) ∙ c .before .before .before .before .survey .ensures) in
+    let said = survey-good t (a .place) (told .1) (c .before .before .before .before .survey .ensures) in
     omega (arith, row-below t (a .place) (omega (arith, said .is-places)), said .is-row)
 
 slice-aggregate-field : tie.Need-slice-aggregate-field

@@ -2,7 +2,7 @@
 use lib.Ieee.{ofBits}
 use mir.Syntax.{w32}
 use mir.Facts.{toZ-ofZ}
-use Rattle.floats.proofs.Exact.{converts, exact-quotient}
+use Rattle.floats.proofs.Exact.{converts, quotient-says}
 use Rattle.floats.proofs.inner.over_256.Statement.{statement}
 use Rattle.floats.proofs.inner.over_256.Tie as tie
 
@@ -11,7 +11,7 @@ int-to-float-result c = rw (toZ-ofZ {w = w32} (c .before .fits .z)) (converts (c
 
 returns : tie.Need-returns
 unfolding ofBits
-returns c = rw (toZ-ofZ {w = w32} (c .before .fits .z)) (exact-quotient (c .before .args .z) (c .before .pre))
+returns c = rw (toZ-ofZ {w = w32} (c .before .fits .z)) (quotient-says (c .before .args .z) (c .before .pre))
 
 pub over-256-spec : {M : Type 1} → statement M
 over-256-spec = tie.close (tie.spec int-to-float-result returns)

@@ -1,61 +1,22 @@
 -- `records::inner::write` puts the eight bytes of a record where it stands. Assumes nothing.
-use borrow.Author.Needs.{needs}
 use lib.Dec.{lit<}
 use lib.ListN.{length-set}
+use borrow.Author.Needs.{needs}
 use Rattle.records.proofs.Bytes.{record-stored}
 use Rattle.records.proofs.inner.write.Statement.{statement}
 use Rattle.records.proofs.inner.write.Tie as tie
 
-low-byte-requires : tie.Need-low-byte-requires
-low-byte-requires c κs = search needs
-
-slice-write-out : tie.Need-slice-write-out
-slice-write-out c = search needs
-
-low-byte-requires-2 : tie.Need-low-byte-requires-2
-low-byte-requires-2 c κs = search needs
-
-slice-write-out-2 : tie.Need-slice-write-out-2
-slice-write-out-2 c = search needs
-
-low-byte-requires-3 : tie.Need-low-byte-requires-3
-low-byte-requires-3 c κs = search needs
-
-slice-write-out-3 : tie.Need-slice-write-out-3
-slice-write-out-3 c = search needs
-
-low-byte-requires-4 : tie.Need-low-byte-requires-4
-low-byte-requires-4 c κs = search needs
-
-slice-write-out-4 : tie.Need-slice-write-out-4
-slice-write-out-4 c = search needs
-
-low-byte-requires-5 : tie.Need-low-byte-requires-5
-low-byte-requires-5 c κs = search needs
-
 slice-write-out-5 : tie.Need-slice-write-out-5
 slice-write-out-5 c = simp (length-set, c .before .before .before .before .before .before .pre) (lit< tt)
-
-low-byte-requires-6 : tie.Need-low-byte-requires-6
-low-byte-requires-6 c κs = search needs
 
 slice-write-out-6 : tie.Need-slice-write-out-6
 slice-write-out-6 c = simp (length-set, c .before .before .before .before .before .before .before .pre) (lit< tt)
 
-low-byte-requires-7 : tie.Need-low-byte-requires-7
-low-byte-requires-7 c κs = search needs
-
 slice-write-out-7 : tie.Need-slice-write-out-7
 slice-write-out-7 c = simp (length-set, c .before .before .before .before .before .before .before .before .pre) (lit< tt)
 
-low-byte-requires-8 : tie.Need-low-byte-requires-8
-low-byte-requires-8 c κs = search needs
-
 slice-write-out-8 : tie.Need-slice-write-out-8
 slice-write-out-8 c = simp (length-set, c .before .before .before .before .before .before .before .before .before .pre) (lit< tt)
-
-same-length : tie.Need-same-length
-same-length c = search needs
 
 returns : tie.Need-returns
 returns c =
@@ -74,21 +35,21 @@ pub write-spec : {M : Type 1} → statement M
 write-spec =
     tie.close
     (tie.spec
-    low-byte-requires
-    slice-write-out
-    low-byte-requires-2
-    slice-write-out-2
-    low-byte-requires-3
-    slice-write-out-3
-    low-byte-requires-4
-    slice-write-out-4
-    low-byte-requires-5
+    (λ c κs. search needs)
+    (λ c. search needs)
+    (λ c κs. search needs)
+    (λ c. search needs)
+    (λ c κs. search needs)
+    (λ c. search needs)
+    (λ c κs. search needs)
+    (λ c. search needs)
+    (λ c κs. search needs)
     slice-write-out-5
-    low-byte-requires-6
+    (λ c κs. search needs)
     slice-write-out-6
-    low-byte-requires-7
+    (λ c κs. search needs)
     slice-write-out-7
-    low-byte-requires-8
+    (λ c κs. search needs)
     slice-write-out-8
-    same-length
+    (λ c. search needs)
     returns)

@@ -4,7 +4,7 @@ use Prim.Native.Nat.{_-_, _≤_}
 use mathlib.Core.Path.{_≡_, ap, _∙_}
 use native.Mathlib.Omega.{arith}
 use borrow.Author.Tests.{lt-ltb, le-ltb}
-use Rattle.pairing.specs.Row.{radiiOf}
+use Rattle.rows.specs.Row.{radiiOf}
 use Rattle.shares.specs.Best.{firstBest, smaller}
 use Rattle.quantizer.specs.Radius.{missBy, chosenNumber}
 use Rattle.shares.proofs.Best.{Scan, scan-begins, scan-takes, scan-passes}

@@ -1,0 +1,188 @@
+// The cases of the calls of the page. A line has two numbers for the call, then the size and the bytes of the page, the size and the bytes of
+// what arrives, and a table. A buffer for a point is lent full of nines.
+use crate::coefficients::bytes;
+use crate::indices::coordinates;
+use crate::input::number;
+use crate::output;
+use crate::tables;
+use floats::inner::is_negative;
+use floats::inner::is_unusable;
+use floats::inner::nearest_whole;
+ghost use Prim.Native.Nat.{_<_};
+use page::Answer;
+use page::Arrival;
+use page::Reading;
+use page::Tallied;
+use page::Value;
+use page::Valued;
+
+// The letter tells the call.
+pub fn run(call: u8, numbers: &[u64], room: &mut [u8]) {
+    let mut page = [0u8; 64];
+    let size = number(numbers, 2) as usize;
+    if size <= 64 {
+        with_page(call, numbers, &mut page[..size], room);
+    }
+}
+
+fn with_page(call: u8, numbers: &[u64], page: &mut [u8], room: &mut [u8]) {
+    copy(numbers, 3, page);
+    let first = 3 + page.len();
+    let mut arrived = [0u8; 64];
+    let size = number(numbers, first) as usize;
+    if size <= 64 {
+        with_arrived(call, numbers, first + 1, page, &mut arrived[..size], room);
+    }
+}
+
+fn with_arrived(
+    call: u8,
+    numbers: &[u64],
+    first: usize,
+    page: &mut [u8],
+    arrived: &mut [u8],
+    room: &mut [u8],
+) {
+    if first < 128 {
+        copy(numbers, first, arrived);
+        with_table(call, numbers, first + arrived.len(), page, arrived, room);
+    }
+}
+
+fn with_table(
+    call: u8,
+    numbers: &[u64],
+    first: usize,
+    page: &mut [u8],
+    arrived: &[u8],
+    room: &mut [u8],
+) {
+    let size = number(numbers, first) as usize;
+    if first < 255 {
+        if size <= room.len() {
+            made(call, numbers, first + 1, page, arrived, &mut room[..size]);
+        }
+    }
+}
+
+fn made(
+    call: u8,
+    numbers: &[u64],
+    first: usize,
+    page: &mut [u8],
+    arrived: &[u8],
+    table: &mut [u8],
+) {
+    tables::make(table, numbers, first);
+    let a = number(numbers, 0) as usize;
+    let b = number(numbers, 1) as usize;
+    match call {
+        b'T' => take(table, page, arrived),
+        b'C' => collect(table, page, arrived),
+        b'R' => read(table, page, a, b),
+        b'V' => value(table, page, a, b),
+        _ => tally(table, page),
+    }
+}
+
+// The numbers from `first` on, as bytes.
+fn copy(numbers: &[u64], first: usize, out: &mut [u8])
+    requires { ⌜ first < 128 ⌝ }
+{
+    let mut i = 0;
+    while i < out.len() {
+        out[i] = (number(numbers, first + i) % 256) as u8;
+        i += 1;
+    }
+}
+
+// Take 0 0: what the call says, and the page then.
+fn take(table: &[u8], page: &mut [u8], arrived: &[u8]) {
+    match page::take(table, page, arrived) {
+        Arrival::Taken => output::words(b" = 0"),
+        Arrival::Refused(refusal) => output::refused(refusal),
+    }
+    output::words(b":");
+    bytes(page);
+}
+
+// Collect 0 0: the number of refused takes, and the page then.
+fn collect(table: &[u8], page: &mut [u8], arrived: &[u8]) {
+    output::field(b" = ", page::collect(table, page, arrived) as u64);
+    output::words(b":");
+    bytes(page);
+}
+
+// Read P B: what the call says of place P with a buffer of B coordinates, and what these are then.
+fn read(table: &[u8], page: &[u8], place: usize, size: usize) {
+    let mut out = [9; 20];
+    if size <= 20 {
+        read_into(table, page, place, &mut out[..size]);
+    }
+}
+
+fn read_into(table: &[u8], page: &[u8], place: usize, out: &mut [i32]) {
+    match page::read(table, page, place, out) {
+        Reading::Answered(answer) => shown(answer),
+        Reading::Refused(refusal) => output::refused(refusal),
+    }
+    output::words(b":");
+    coordinates(out);
+}
+
+fn shown(answer: Answer) {
+    match answer {
+        Answer::Sound => output::words(b" = sound"),
+        Answer::Mended => output::words(b" = mended"),
+        Answer::Missing => output::words(b" = missing"),
+        Answer::Contested => output::words(b" = contested"),
+        Answer::Unreadable(reason) => output::field(b" = unreadable ", reason as u64),
+    }
+}
+
+// Value P I: what the call says of coordinate I of place P.
+fn value(table: &[u8], page: &[u8], place: usize, coordinate: usize) {
+    match page::coefficient(table, page, place, coordinate) {
+        Valued::Answered(value) => carried(value),
+        Valued::Refused(refusal) => output::refused(refusal),
+    }
+}
+
+fn carried(value: Value) {
+    match value {
+        Value::Sound(v) => scaled(b" = sound", v),
+        Value::Mended(v) => scaled(b" = mended", v),
+        Value::Missing => output::words(b" = missing"),
+        Value::Contested => output::words(b" = contested"),
+        Value::Unreadable(reason) => output::field(b" = unreadable ", reason as u64),
+    }
+}
+
+// A value as a whole number over 256; a zero that is not positive has its sign too.
+fn scaled(text: &[u8], v: f32) {
+    output::words(text);
+    if is_unusable(v) {
+        output::words(b" none");
+        return;
+    }
+    let m = nearest_whole(v) as u64;
+    if is_negative(1.0 / v) {
+        output::field(b" -", m);
+    } else {
+        output::field(b" ", m);
+    }
+}
+
+// Answers 0 0: the five counts of the tally.
+fn tally(table: &[u8], page: &[u8]) {
+    match page::tally(table, page) {
+        Tallied::Counted(counts) => {
+            output::field(b" = 0 ", counts.sound as u64);
+            output::field(b" ", counts.mended as u64);
+            output::field(b" ", counts.missing as u64);
+            output::field(b" ", counts.contested as u64);
+            output::field(b" ", counts.unreadable as u64);
+        }
+        Tallied::Refused(refusal) => output::refused(refusal),
+    }
+}

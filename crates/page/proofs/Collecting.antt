@@ -1,0 +1,87 @@
+-- What collect does, part by part: a take that is answered with a refusal counts 1, and what is left of the run decides. Assumes nothing.
+use Prim.Native.Nat.{ℕ, _+_, _-_, _/_, _≤_, _<_, min}
+use mathlib.Core.Bool.{Bool, true}
+use mathlib.Core.List.{List, [], _∷_}
+use mathlib.Core.Path.{_≡_, refl, sym, ap, ap₂, _∙_}
+use native.Mathlib.Decide.{decLt}
+use native.Mathlib.Nat.{zero-add, min-eq-left, min-eq-right}
+use native.Mathlib.Omega.{arith}
+use lib.Dec.{lit<}
+use lib.ListN.{length, take, drop, length-drop, drop-of-length-le}
+use lib.Seq.{take-all, drop-drop}
+use Rattle.answers.proofs.InOrder.{Numbered, says-passes, passes-fails, fails-then, refusal-fails, passed-leaves}
+use Rattle.answers.specs.Checks.{anyOf, failsOf}
+use Rattle.answers.specs.Refusals.{meaning}
+use Rattle.answers.specs.declared.Refusal.{Refusal}
+use Rattle.pairing.specs.Table.{tableChecks}
+use Rattle.rules.proofs.Runs.{parts-next, parts-none, parts-count, shut-after}
+use Rattle.rules.specs.Taking.{takeRest, takeChecks, takeInto, takeSaysIn, takeLeavesIn, takeLeaves, refusals, Received, arrive, after, partsOf, collected}
+use Rattle.page.specs.Bounds.{Sized}
+
+module _ {t : List ℕ} {places : ℕ} (sized : Sized t places) (pg x : List ℕ) where
+  pub leaves-all : {left : List ℕ} → left ≡ takeLeavesIn t pg x → left ≡ takeLeaves t pg x
+  leaves-all did = did ∙ passed-leaves (tableChecks t) (takeRest t pg x) (takeInto pg x) pg (sized .good)
+
+  numbered : Numbered (takeRest t pg x)
+  numbered = (lit< tt, (lit< tt, (lit< tt, tt)))
+
+  fails-by : {b : Bool} → anyOf (failsOf (takeRest t pg x)) ≡ b → anyOf (failsOf (takeChecks t pg x)) ≡ b
+  fails-by e = fails-then (tableChecks t) (takeRest t pg x) ∙ rw (passes-fails (tableChecks t) (sized .good)) e
+
+  pub counts-0 : 0 ∷ [] ≡ takeSaysIn t pg x → 0 ≡ refusals t pg x
+  unfolding refusals
+  counts-0 said = rw (fails-by (passes-fails (takeRest t pg x) (says-passes [] [] (takeRest t pg x) numbered (sym said)))) refl
+
+  pub counts-1 : (r : Refusal) → meaning r ≡ takeSaysIn t pg x → 1 ≡ refusals t pg x
+  unfolding refusals
+  counts-1 r said = rw (fails-by (refusal-fails [] (takeRest t pg x) r said)) refl
+
+-- the part from `at` to `end`
+module _ (bytes : List ℕ) (at end : ℕ) (is-end : end ≡ min (at + 8) (length bytes)) (h : at < length bytes) where
+  part-is : take (end - at) (drop at bytes) ≡ take 8 (drop at bytes)
+  part-is = go (decLt (length bytes) (at + 8))
+    where
+      go : Dec (length bytes < at + 8) → take (end - at) (drop at bytes) ≡ take 8 (drop at bytes)
+      go (yes short) =
+          let last : end ≡ length bytes = is-end ∙ min-eq-right (omega arith) in
+          let all = length-drop at bytes in
+          take-all (end - at) (drop at bytes) (omega arith) ∙ sym (take-all 8 (drop at bytes) (omega arith))
+      go (no long) =
+          let next : end ≡ at + 8 = is-end ∙ min-eq-left (omega arith) in
+          let eight : end - at ≡ 8 = omega arith in
+          rw eight refl
+
+  rest-is : drop 8 (drop at bytes) ≡ drop end bytes
+  rest-is = drop-drop 8 at bytes ∙ go (decLt (length bytes) (at + 8))
+    where
+      go : Dec (length bytes < at + 8) → drop (at + 8) bytes ≡ drop end bytes
+      go (yes short) =
+          let last : end ≡ length bytes = is-end ∙ min-eq-right (omega arith) in
+          drop-of-length-le bytes {i = at + 8} (omega arith) ∙ sym (drop-of-length-le bytes {i = end} (omega arith))
+      go (no long) = let next : end ≡ at + 8 = is-end ∙ min-eq-left (omega arith) in rw next refl
+
+  parts-step : partsOf (drop at bytes) ≡ take (end - at) (drop at bytes) ∷ partsOf (drop end bytes)
+  parts-step =
+      parts-next (drop at bytes) (rw (length-drop at bytes) (omega arith))
+      ∙ ap₂ (λ (x rest : List ℕ). x ∷ partsOf rest) (sym part-is) rest-is
+
+  -- a turn: the part is taken, and what is left decides
+  pub collects : (t : List ℕ) (pg page : List ℕ) (refused more : ℕ) {left : Received}
+      → page ≡ takeLeaves t pg (take (end - at) (drop at bytes)) → more ≡ refusals t pg (take (end - at) (drop at bytes))
+      → after t (record { page = pg; refused = refused }) (partsOf (drop at bytes)) ≡ left
+      → after t (record { page = page; refused = refused + more }) (partsOf (drop end bytes)) ≡ left
+  unfolding after arrive
+  collects t pg page refused more is-page is-more e = rw (is-page, is-more) (rw parts-step at e)
+
+-- nothing is left
+pub all-collected : (t pg bytes : List ℕ) (at refused : ℕ) {left : Received} → length bytes ≤ at
+    → after t (record { page = pg; refused = refused }) (partsOf (drop at bytes)) ≡ left → record { page = pg; refused = refused } ≡ left
+unfolding after
+all-collected t pg bytes at refused h e = rw (parts-none (drop at bytes) (rw (length-drop at bytes) (omega arith))) at e
+
+-- a bad table: every part is refused, and the page is as it was
+pub shut-collected : (t pg bytes : List ℕ) → anyOf (failsOf (tableChecks t)) ≡ true
+    → collected t pg bytes ≡ record { page = pg; refused = (length bytes + 7) / 8 }
+shut-collected t pg bytes bad =
+    shut-after t (record { page = pg; refused = 0 }) (partsOf bytes) (rw bad refl)
+    ∙ ap (λ (n : ℕ). record { page = pg; refused = n }) (zero-add (length (partsOf bytes)) ∙ parts-count bytes)

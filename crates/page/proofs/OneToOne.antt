@@ -1,0 +1,103 @@
+-- Two answers that the contract of a call of the page allows are equal: answers that say the same, and carry the same values, are the same. Assumes
+-- nothing.
+use Prim.Native.Nat.{ℕ, zero, suc}
+use mathlib.Core.List.{List, []}
+use mathlib.Core.Path.{_≡_, refl, sym, ap₂, _∙_}
+use lib.Ieee.{Float, nan}
+use lib.ListN.{getD}
+use Rattle.answers.proofs.OneToOne.{one-to-one, answerOf, answer-refused}
+use Rattle.page.specs.Meanings.{takeMeaning, readMeaning, coefficientMeaning, coefficientValues, tallyMeaning}
+use Rattle.page.specs.declared.Answer.the-variants as answer
+use Rattle.page.specs.declared.Answer.{Answer}
+use Rattle.page.specs.declared.Arrival.the-variants as arrival
+use Rattle.page.specs.declared.Arrival.{Arrival}
+use Rattle.page.specs.declared.Reading.the-variants as reading
+use Rattle.page.specs.declared.Reading.{Reading}
+use Rattle.page.specs.declared.Tallied.the-variants as tallied
+use Rattle.page.specs.declared.Tallied.{Tallied}
+use Rattle.page.specs.declared.Value.the-variants as value
+use Rattle.page.specs.declared.Value.{Value}
+use Rattle.page.specs.declared.Valued.the-variants as valued
+use Rattle.page.specs.declared.Valued.{Valued}
+
+-- ---- take
+arrivalOf : List ℕ → Arrival
+arrivalOf vs = answerOf (λ n. arrival.Taken) arrival.Refused vs
+
+arrival-back : (a : Arrival) → arrivalOf (takeMeaning a) ≡ a
+unfolding arrivalOf answerOf
+arrival-back arrival.Taken = refl
+arrival-back (arrival.Refused r) = answer-refused (λ n. arrival.Taken) arrival.Refused r
+
+pub take-one-to-one : (a b : Arrival) → takeMeaning a ≡ takeMeaning b → a ≡ b
+take-one-to-one = one-to-one takeMeaning arrivalOf arrival-back
+
+-- ---- read
+-- the answers by number, unreadable for the rest
+shownOf : ℕ → ℕ → Answer
+shownOf zero reason = answer.Sound
+shownOf (suc zero) reason = answer.Mended
+shownOf (suc (suc zero)) reason = answer.Missing
+shownOf (suc (suc (suc zero))) reason = answer.Contested
+shownOf (suc (suc (suc (suc n)))) reason = answer.Unreadable reason
+
+answeredOf : List ℕ → Reading
+answeredOf vs = reading.Answered (shownOf (getD vs 0 0) (getD vs 1 0))
+
+readingOf : List ℕ → Reading
+readingOf vs = answerOf answeredOf reading.Refused vs
+
+reading-back : (a : Reading) → readingOf (readMeaning a) ≡ a
+unfolding readingOf answeredOf shownOf answerOf
+reading-back (reading.Answered answer.Sound) = refl
+reading-back (reading.Answered answer.Mended) = refl
+reading-back (reading.Answered answer.Missing) = refl
+reading-back (reading.Answered answer.Contested) = refl
+reading-back (reading.Answered (answer.Unreadable reason)) = refl
+reading-back (reading.Refused r) = answer-refused answeredOf reading.Refused r
+
+pub read-one-to-one : (a b : Reading) → readMeaning a ≡ readMeaning b → a ≡ b
+read-one-to-one = one-to-one readMeaning readingOf reading-back
+
+-- ---- coefficient, with the values that it carries
+valueOf : ℕ → ℕ → Float → Value
+valueOf zero reason v = value.Sound v
+valueOf (suc zero) reason v = value.Mended v
+valueOf (suc (suc zero)) reason v = value.Missing
+valueOf (suc (suc (suc zero))) reason v = value.Contested
+valueOf (suc (suc (suc (suc n)))) reason v = value.Unreadable reason
+
+carryingOf : List Float → List ℕ → Valued
+carryingOf values vs = valued.Answered (valueOf (getD vs 0 0) (getD vs 1 0) (getD values 0 nan))
+
+valuedOf : List ℕ → List Float → Valued
+valuedOf vs values = answerOf (carryingOf values) valued.Refused vs
+
+valued-back : (a : Valued) → valuedOf (coefficientMeaning a) (coefficientValues a) ≡ a
+unfolding valuedOf carryingOf valueOf answerOf
+valued-back (valued.Answered (value.Sound v)) = refl
+valued-back (valued.Answered (value.Mended v)) = refl
+valued-back (valued.Answered value.Missing) = refl
+valued-back (valued.Answered value.Contested) = refl
+valued-back (valued.Answered (value.Unreadable reason)) = refl
+valued-back (valued.Refused r) = answer-refused (carryingOf []) valued.Refused r
+
+pub coefficient-one-to-one : (a b : Valued) → coefficientMeaning a ≡ coefficientMeaning b → coefficientValues a ≡ coefficientValues b → a ≡ b
+coefficient-one-to-one a b said carried = sym (valued-back a) ∙ ap₂ valuedOf said carried ∙ valued-back b
+
+-- ---- tally
+countedOf : List ℕ → Tallied
+countedOf ns =
+    tallied.Counted
+    (record { sound = getD ns 0 0; mended = getD ns 1 0; missing = getD ns 2 0; contested = getD ns 3 0; unreadable = getD ns 4 0 })
+
+talliedOf : List ℕ → Tallied
+talliedOf vs = answerOf countedOf tallied.Refused vs
+
+tallied-back : (a : Tallied) → talliedOf (tallyMeaning a) ≡ a
+unfolding talliedOf countedOf answerOf
+tallied-back (tallied.Counted counts) = refl
+tallied-back (tallied.Refused r) = answer-refused countedOf tallied.Refused r
+
+pub tally-one-to-one : (a b : Tallied) → tallyMeaning a ≡ tallyMeaning b → a ≡ b
+tally-one-to-one = one-to-one tallyMeaning talliedOf tallied-back

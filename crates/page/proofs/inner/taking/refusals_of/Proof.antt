@@ -1,0 +1,28 @@
+-- `page::inner::taking::refusals_of` counts a refusal as 1. Assumes nothing.
+use mathlib.Core.Path.{sym, ap, _∙_}
+use native.Mathlib.Omega.{arith}
+use borrow.Author.Needs.{needs}
+use Rattle.page.specs.Meanings.{takeMeaning}
+use Rattle.page.proofs.Collecting.{leaves-all, counts-0, counts-1}
+use Rattle.page.proofs.inner.taking.refusals_of.Statement.{statement}
+use Rattle.page.proofs.inner.taking.refusals_of.Tie as tie
+
+returns : tie.Need-returns
+returns c =
+    let a = c .before .before .before .before .before .before .before .before .before in
+    let did = c .before .before .before .before .take-in .ensures in
+    let said = ap takeMeaning (sym (c .enum-told .given .1)) ∙ did .0 in
+    (counts-0 (a .pre) (a .args .page .now) (a .args .bytes .now) said, leaves-all (a .pre) (a .args .page .now) (a .args .bytes .now) (did .1), omega arith)
+
+returns-2 : tie.Need-returns-2
+returns-2 c =
+    let a = c .before .before .before .before .before .before .before .before .before in
+    let did = c .before .before .before .before .take-in .ensures in
+    let told = c .enum-told2 .given in
+    let said = ap takeMeaning (sym (told .1)) ∙ did .0 in
+    (counts-1 (a .pre) (a .args .page .now) (a .args .bytes .now) (told .0 .0) said, leaves-all (a .pre) (a .args .page .now) (a .args .bytes .now) (did .1), omega arith)
+
+pub refusals-of-spec : {M : Type 1} → statement M
+refusals-of-spec =
+    tie.close
+    (tie.spec (λ c κs. search needs) (λ c. search needs) (λ c. search needs) (λ c. search needs) returns (λ c. search needs) returns-2)

@@ -1,0 +1,119 @@
+// The calls of the page (document 01, "The page"): take a record, collect a run of records, read a place, one coefficient, and the tally. What
+// they are made of stands in `inner`; what they are to say, in `rules`.
+pub mod inner;
+
+use answers::Refusal;
+use inner::reading::coefficient_in;
+use inner::reading::read_in;
+use inner::taking::collect_in;
+use inner::taking::parts;
+use inner::taking::take_in;
+use inner::tallying::tally_in;
+use pairing::inner::survey::Surveyed;
+use pairing::inner::survey::survey;
+ghost use mathlib.Core.Path.{_≡_};
+ghost use Rattle.enumeration.proofs.Product.{product};
+ghost use Rattle.rules.specs.Taking.{takeSays, takeLeaves, collected};
+ghost use Rattle.rules.specs.Reading.{readSays, readLeaves, coefficientSays, coefficientCarries};
+ghost use Rattle.rules.specs.Tallying.{tallySays};
+ghost use Rattle.page.specs.Meanings.{takeMeaning, readMeaning, coefficientMeaning, coefficientValues, tallyMeaning};
+
+pub enum Arrival {
+    Taken,
+    Refused(Refusal),
+}
+
+// What a place shows; an unreadable one has its reason: 9, 10 or 14.
+pub enum Answer {
+    Sound,
+    Mended,
+    Missing,
+    Contested,
+    Unreadable(u32),
+}
+
+pub enum Reading {
+    Answered(Answer),
+    Refused(Refusal),
+}
+
+// What one coefficient shows: sound and mended have its value, unreadable its reason.
+pub enum Value {
+    Sound(f32),
+    Mended(f32),
+    Missing,
+    Contested,
+    Unreadable(u32),
+}
+
+pub enum Valued {
+    Answered(Value),
+    Refused(Refusal),
+}
+
+// How many places show each answer.
+pub struct Counts {
+    pub sound: usize,
+    pub mended: usize,
+    pub missing: usize,
+    pub contested: usize,
+    pub unreadable: usize,
+}
+
+pub enum Tallied {
+    Counted(Counts),
+    Refused(Refusal),
+}
+
+// The call take: a record into the page. It changes the cell of the record's place and no other byte.
+pub fn take(table: &[u8], page: &mut [u8], bytes: &[u8]) -> Arrival
+    ensures { λ r. ⌜ (takeMeaning r ≡ takeSays (now (table .entry)) (now (page .entry)) (now (bytes .entry))) × (now (page .exit) ≡ takeLeaves (now (table .entry)) (now (page .entry)) (now (bytes .entry))) ⌝ }
+{
+    match survey(table, 0) {
+        Surveyed::Good { places, row: _ } => take_in(table, places, page, bytes),
+        Surveyed::Bad(refusal) => Arrival::Refused(refusal),
+    }
+}
+
+// The call collect: a run of bytes, eight by eight and a shorter last part too, each taken in turn; how many takes were refused. With a bad table
+// all of them are.
+pub fn collect(table: &[u8], page: &mut [u8], bytes: &[u8]) -> usize
+    ensures { λ r. ⌜ (r ≡ collected (now (table .entry)) (now (page .entry)) (now (bytes .entry)) .refused) × (now (page .exit) ≡ collected (now (table .entry)) (now (page .entry)) (now (bytes .entry)) .page) ⌝ }
+{
+    match survey(table, 0) {
+        Surveyed::Good { places, row: _ } => collect_in(table, places, page, bytes),
+        Surveyed::Bad(_) => parts(bytes.len()),
+    }
+}
+
+// The call read: the point of a place, or zeros, into the lent buffer once every check has passed.
+pub fn read(table: &[u8], page: &[u8], place: usize, out: &mut [i32]) -> Reading
+    ensures { λ r. ⌜ (readMeaning r ≡ readSays product (now (table .entry)) (now (page .entry)) place (now (out .entry))) × (now (out .exit) ≡ readLeaves product (now (table .entry)) (now (page .entry)) place (now (out .entry))) ⌝ }
+{
+    match survey(table, place) {
+        Surveyed::Good { places, row } => read_in(table, places, row, page, place, out),
+        Surveyed::Bad(refusal) => Reading::Refused(refusal),
+    }
+}
+
+// The call coefficient: one coordinate of a place, as its value.
+pub fn coefficient(table: &[u8], page: &[u8], place: usize, coordinate: usize) -> Valued
+    ensures { λ r. ⌜ (coefficientMeaning r ≡ coefficientSays product (now (table .entry)) (now (page .entry)) place coordinate) × (coefficientValues r ≡ coefficientCarries product (now (table .entry)) (now (page .entry)) place coordinate) ⌝ }
+{
+    match survey(table, place) {
+        Surveyed::Good { places, row } => {
+            coefficient_in(table, places, row, page, place, coordinate)
+        }
+        Surveyed::Bad(refusal) => Valued::Refused(refusal),
+    }
+}
+
+// The call tally: the five counts.
+pub fn tally(table: &[u8], page: &[u8]) -> Tallied
+    ensures { λ r. ⌜ tallyMeaning r ≡ tallySays product (now (table .entry)) (now (page .entry)) ⌝ }
+{
+    match survey(table, 0) {
+        Surveyed::Good { places, row: _ } => tally_in(table, places, page),
+        Surveyed::Bad(refusal) => Tallied::Refused(refusal),
+    }
+}

@@ -1,0 +1,15 @@
+-- `probe::pages::probe_coefficient` is an item of what the call coefficient says. Assumes nothing.
+use Prim.Native.Nat.{ℕ}
+use mathlib.Core.List.{List}
+use mathlib.Core.Path.{ap, _∙_}
+use lib.ListN.{getD}
+use borrow.Author.Needs.{needs}
+use Rattle.probe.proofs.pages.probe_coefficient.Statement.{statement}
+use Rattle.probe.proofs.pages.probe_coefficient.Tie as tie
+
+returns : tie.Need-returns
+returns c = c .coefficient-item .ensures ∙ ap (λ (vs : List ℕ). getD vs (c .before .before .before .before .args .which) 0) (c .before .coefficient .ensures .0)
+
+pub probe-coefficient-spec : {M : Type 1} → statement M
+probe-coefficient-spec =
+    tie.close (tie.spec (λ c κs. search needs) (λ c κs. search needs) returns)

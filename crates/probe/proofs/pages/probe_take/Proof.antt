@@ -1,0 +1,14 @@
+-- `probe::pages::probe_take` is an item of what the call take says, and leaves in the page what that call leaves. Assumes nothing.
+use Prim.Native.Nat.{ℕ}
+use mathlib.Core.List.{List}
+use mathlib.Core.Path.{ap, _∙_}
+use lib.ListN.{getD}
+use borrow.Author.Needs.{needs}
+use Rattle.probe.proofs.pages.probe_take.Statement.{statement}
+use Rattle.probe.proofs.pages.probe_take.Tie as tie
+
+returns : tie.Need-returns
+returns c = let did = c .before .before .before .take .ensures in (c .take-item .ensures ∙ ap (λ (vs : List ℕ). getD vs (c .before .before .before .before .before .before .before .before .args .which) 0) (did .0), did .1)
+
+pub probe-take-spec : {M : Type 1} → statement M
+probe-take-spec = tie.close (tie.spec (λ c κs. search needs) (λ c κs. search needs) (λ c. search needs) returns)

@@ -1,0 +1,197 @@
+// The calls of the page, exported to C for the second program alone. What a call says is a list: 0 and its values, or a refusal's number and what
+// it names. `which` picks an item of it; an item past the end is 0.
+use answers::Refusal;
+use answers::number;
+use answers::value;
+use page::Answer;
+use page::Arrival;
+use page::Reading;
+use page::Tallied;
+use page::Value;
+use page::Valued;
+ghost use mathlib.Core.Path.{_≡_};
+ghost use mathlib.Core.List.{_∷_, []};
+ghost use lib.ListN.{getD};
+ghost use Rattle.answers.specs.Refusals.{meaning};
+ghost use Rattle.enumeration.proofs.Product.{product};
+ghost use Rattle.rules.specs.Taking.{takeSays, takeLeaves, collected};
+ghost use Rattle.rules.specs.Reading.{readSays, readLeaves, coefficientSays, coefficientCarries};
+ghost use Rattle.rules.specs.Tallying.{tallySays};
+ghost use Rattle.page.specs.Meanings.{takeMeaning, answerMeaning, readMeaning, valueMeaning, valuesIn, coefficientMeaning, coefficientValues, tallyMeaning};
+ghost use Rattle.probe.specs.Coded.{positiveZero};
+
+// An item of a refusal.
+fn refused(refusal: Refusal, which: usize) -> u64
+    ensures { λ r. ⌜ r ≡ getD (meaning refusal) which 0 ⌝ }
+{
+    match which {
+        0 => number(refusal) as u64,
+        1 => value(refusal) as u64,
+        _ => 0,
+    }
+}
+
+// An item of an answer and its reason.
+fn told(answer: u64, reason: u32, which: usize) -> u64
+    ensures { λ r. ⌜ r ≡ getD (0 ∷ answer ∷ reason ∷ []) which 0 ⌝ }
+{
+    match which {
+        1 => answer,
+        2 => reason as u64,
+        _ => 0,
+    }
+}
+
+fn take_item(answer: Arrival, which: usize) -> u64
+    ensures { λ r. ⌜ r ≡ getD (takeMeaning answer) which 0 ⌝ }
+{
+    match answer {
+        Arrival::Taken => told(0, 0, which),
+        Arrival::Refused(refusal) => refused(refusal, which),
+    }
+}
+
+fn answer_item(answer: Answer, which: usize) -> u64
+    ensures { λ r. ⌜ r ≡ getD (answerMeaning answer) which 0 ⌝ }
+{
+    match answer {
+        Answer::Sound => told(0, 0, which),
+        Answer::Mended => told(1, 0, which),
+        Answer::Missing => told(2, 0, which),
+        Answer::Contested => told(3, 0, which),
+        Answer::Unreadable(reason) => told(4, reason, which),
+    }
+}
+
+fn read_item(answer: Reading, which: usize) -> u64
+    ensures { λ r. ⌜ r ≡ getD (readMeaning answer) which 0 ⌝ }
+{
+    match answer {
+        Reading::Answered(answer) => answer_item(answer, which),
+        Reading::Refused(refusal) => refused(refusal, which),
+    }
+}
+
+fn value_item(value: Value, which: usize) -> u64
+    ensures { λ r. ⌜ r ≡ getD (valueMeaning value) which 0 ⌝ }
+{
+    match value {
+        Value::Sound(_) => told(0, 0, which),
+        Value::Mended(_) => told(1, 0, which),
+        Value::Missing => told(2, 0, which),
+        Value::Contested => told(3, 0, which),
+        Value::Unreadable(reason) => told(4, reason, which),
+    }
+}
+
+fn coefficient_item(answer: Valued, which: usize) -> u64
+    ensures { λ r. ⌜ r ≡ getD (coefficientMeaning answer) which 0 ⌝ }
+{
+    match answer {
+        Valued::Answered(value) => value_item(value, which),
+        Valued::Refused(refusal) => refused(refusal, which),
+    }
+}
+
+// The value that is carried, or positive zero.
+fn carried(value: Value) -> f32
+    ensures { λ v. ⌜ v ≡ getD (valuesIn value) 0 positiveZero ⌝ }
+{
+    match value {
+        Value::Sound(v) => v,
+        Value::Mended(v) => v,
+        Value::Missing => 0.0,
+        Value::Contested => 0.0,
+        Value::Unreadable(_) => 0.0,
+    }
+}
+
+fn coefficient_value(answer: Valued) -> f32
+    ensures { λ v. ⌜ v ≡ getD (coefficientValues answer) 0 positiveZero ⌝ }
+{
+    match answer {
+        Valued::Answered(value) => carried(value),
+        Valued::Refused(_) => 0.0,
+    }
+}
+
+fn tally_item(answer: Tallied, which: usize) -> u64
+    ensures { λ r. ⌜ r ≡ getD (tallyMeaning answer) which 0 ⌝ }
+{
+    match answer {
+        Tallied::Counted(counts) => match which {
+            1 => counts.sound as u64,
+            2 => counts.mended as u64,
+            3 => counts.missing as u64,
+            4 => counts.contested as u64,
+            5 => counts.unreadable as u64,
+            _ => 0,
+        },
+        Tallied::Refused(refusal) => refused(refusal, which),
+    }
+}
+
+// The call take.
+#[no_mangle]
+pub extern "C" fn probe_take(table: &[u8], page: &mut [u8], bytes: &[u8], which: usize) -> u64
+    ensures { λ r. ⌜ (r ≡ getD (takeSays (now (table .entry)) (now (page .entry)) (now (bytes .entry))) which 0) × (now (page .exit) ≡ takeLeaves (now (table .entry)) (now (page .entry)) (now (bytes .entry))) ⌝ }
+{
+    take_item(page::take(table, page, bytes), which)
+}
+
+// The call collect.
+#[no_mangle]
+pub extern "C" fn probe_collect(table: &[u8], page: &mut [u8], bytes: &[u8]) -> usize
+    ensures { λ r. ⌜ (r ≡ collected (now (table .entry)) (now (page .entry)) (now (bytes .entry)) .refused) × (now (page .exit) ≡ collected (now (table .entry)) (now (page .entry)) (now (bytes .entry)) .page) ⌝ }
+{
+    page::collect(table, page, bytes)
+}
+
+// The call read.
+#[no_mangle]
+pub extern "C" fn probe_read(
+    table: &[u8],
+    page: &[u8],
+    place: usize,
+    out: &mut [i32],
+    which: usize,
+) -> u64
+    ensures { λ r. ⌜ (r ≡ getD (readSays product (now (table .entry)) (now (page .entry)) place (now (out .entry))) which 0) × (now (out .exit) ≡ readLeaves product (now (table .entry)) (now (page .entry)) place (now (out .entry))) ⌝ }
+{
+    read_item(page::read(table, page, place, out), which)
+}
+
+// The call coefficient, by what it says.
+#[no_mangle]
+pub extern "C" fn probe_coefficient(
+    table: &[u8],
+    page: &[u8],
+    place: usize,
+    coordinate: usize,
+    which: usize,
+) -> u64
+    ensures { λ r. ⌜ r ≡ getD (coefficientSays product (now (table .entry)) (now (page .entry)) place coordinate) which 0 ⌝ }
+{
+    coefficient_item(page::coefficient(table, page, place, coordinate), which)
+}
+
+// The call coefficient, by the value that it carries, or positive zero.
+#[no_mangle]
+pub extern "C" fn probe_coefficient_value(
+    table: &[u8],
+    page: &[u8],
+    place: usize,
+    coordinate: usize,
+) -> f32
+    ensures { λ v. ⌜ v ≡ getD (coefficientCarries product (now (table .entry)) (now (page .entry)) place coordinate) 0 positiveZero ⌝ }
+{
+    coefficient_value(page::coefficient(table, page, place, coordinate))
+}
+
+// The call tally.
+#[no_mangle]
+pub extern "C" fn probe_tally(table: &[u8], page: &[u8], which: usize) -> u64
+    ensures { λ r. ⌜ r ≡ getD (tallySays product (now (table .entry)) (now (page .entry))) which 0 ⌝ }
+{
+    tally_item(page::tally(table, page), which)
+}

@@ -1,0 +1,63 @@
+-- `rows::inner::fault::bad_radius`: an unused position is held to 0, and a used one to the order and to the largest radius. Assumes nothing.
+use Prim.Native.Nat.{ℕ}
+use mathlib.Core.Path.{_≡_, sym, ap, ap₂, _∙_}
+use mathlib.Core.Bool.{not}
+use lib.Dec.{eqb, ltb}
+use native.Mathlib.Omega.{arith}
+use Rattle.shell.specs.Largest.{largestRadius}
+use Rattle.rows.proofs.Faults.{above-largest, unused-says, disorder-says, used-says}
+use borrow.Author.Needs.{needs}
+use Rattle.rows.proofs.inner.fault.bad_radius.Statement.{statement}
+use Rattle.rows.proofs.inner.fault.bad_radius.Tie as tie
+
+radii-requires : tie.Need-radii-requires
+radii-requires c κs = search needs
+
+radius-requires : tie.Need-radius-requires
+radius-requires c κs = search needs
+
+returns : tie.Need-returns
+returns c =
+    let a = c .before .before .before .before .before .args in
+    ap (λ (k : ℕ). not (eqb k 0)) (c .before .radius .ensures .0) ∙ unused-says (a .table .now) (a .row) (a .number) (omega arith)
+
+out-of-order-requires : tie.Need-out-of-order-requires
+out-of-order-requires c κs = search needs
+
+returns-2 : tie.Need-returns-2
+returns-2 c =
+    let a = c .before .before .before .before .before .args in
+    disorder-says (a .table .now) (a .row) (a .number) (omega arith) (sym (c .before .out-of-order .ensures) ∙ c .if2 .taken)
+
+length-requires : tie.Need-length-requires
+length-requires c κs = search needs
+
+largest-radius-requires : tie.Need-largest-radius-requires
+largest-radius-requires c κs = search needs
+
+radius-requires-2 : tie.Need-radius-requires-2
+radius-requires-2 c κs = search needs
+
+returns-3 : tie.Need-returns-3
+returns-3 c =
+    let st = c .before .before .before .before .before .before .before .before .before in
+    let a = st .args in
+    let l : c .before .before .before .length .result .0 ≡ _ = c .before .before .before .length .ensures in
+    ap₂ ltb (c .before .before .largest-radius .ensures ∙ ap largestRadius l) (c .before .radius2 .ensures .0)
+    ∙ above-largest _ _ (st .pre .2) (st .pre .3)
+    ∙ used-says (a .table .now) (a .row) (a .number) (omega arith)
+    (sym (c .before .before .before .before .before .out-of-order .ensures) ∙ c .before .before .before .before .if2 .left)
+
+pub bad-radius-spec : {M : Type 1} → statement M
+bad-radius-spec =
+    tie.close
+    (tie.spec
+    radii-requires
+    radius-requires
+    returns
+    out-of-order-requires
+    returns-2
+    length-requires
+    largest-radius-requires
+    radius-requires-2
+    returns-3)

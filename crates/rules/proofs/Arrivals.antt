@@ -1,0 +1,133 @@
+-- Arrivals in any order: one take changes no cell but the one that its record claims, keeps the length of the page, and decides of no other take
+-- whether it is refused; so two takes may change places, on any table and any page. Assumes nothing.
+use Prim.Native.Nat.{ℕ, _<_}
+use mathlib.Core.Path.{_≡_, refl, sym, ap, _∙_}
+use mathlib.Core.List.{List}
+use mathlib.Core.Bool.{Bool, true, false, not, _||_, false≢true}
+use lib.Dec.{eqb}
+use lib.ListN.{length, drop}
+use borrow.Author.Tests.{eqb-true, eqb-false, eq-eqb}
+use Rattle.answers.specs.Checks.{pick, anyOf, failsOf}
+use Rattle.answers.proofs.InOrder.{fails-then, fails-leaves}
+use Rattle.pairing.specs.Table.{placesIn, tableChecks, Good}
+use Rattle.records.specs.Record.{placeIn}
+use Rattle.rules.specs.Cell.{pageLength, cell, setCell}
+use Rattle.rules.specs.Taking.{names, claims, badCell, wrongPage, takeRest, takeChecks, takeInto, takeLeaves, refusals, arriveCell}
+use Rattle.rules.proofs.Cells.{length-cell, length-set, cell-set-same, cell-set-other, page-ext}
+use Rattle.rules.proofs.CellRule.{length-arrives, bad-stays, arrives-two}
+use Rattle.rules.proofs.Claims.{Claims, claim?, claim-is, is-claim, no-claim, claims-own, nextCell, claimed-leaves, claimed-refusals, none-leaves, none-refusals}
+
+-- a record that claims a place names it
+pub claim-names : (t x : List ℕ) (p : ℕ) → claims t x p ≡ true → names x p ≡ true
+claim-names t x p e = eq-eqb (placeIn x) p (claim-is t x p e .named)
+
+module _ (t : List ℕ) (good : Good t) where
+  module _ (pg : List ℕ) (size : length pg ≡ pageLength (placesIn t)) (x : List ℕ) where
+    -- by whether it claims the place that it names
+    module _ (own : Claims t x (placeIn x)) where
+      made-length : length (arriveCell (placeIn x) x (cell pg (placeIn x))) ≡ 9
+      made-length =
+          length-arrives (placeIn x) x (cell pg (placeIn x)) (own .eight) (length-cell (placesIn t) pg size (placeIn x) (own .inside))
+
+      claimed-size : length (takeLeaves t pg x) ≡ length pg
+      claimed-size =
+          ap length (claimed-leaves t good pg size x (placeIn x) own)
+          ∙ length-set (placesIn t) pg size (placeIn x) (own .inside) (arriveCell (placeIn x) x (cell pg (placeIn x))) made-length
+
+      claimed-cell : (q : ℕ) → q < placesIn t → cell (takeLeaves t pg x) q ≡ nextCell t q x (cell pg q)
+      claimed-cell q h = ap (λ (page : List ℕ). cell page q) (claimed-leaves t good pg size x (placeIn x) own) ∙ go (eqb (placeIn x) q) refl
+        where
+          made : List ℕ
+          made = arriveCell (placeIn x) x (cell pg (placeIn x))
+
+          go : (b : Bool) → eqb (placeIn x) q ≡ b → cell (setCell pg (placeIn x) made) q ≡ nextCell t q x (cell pg q)
+          go true e =
+              let same = eqb-true (placeIn x) q e in
+              rw (← same) (cell-set-same (placesIn t) pg size (placeIn x) (own .inside) made made-length ∙ rw (is-claim t x (placeIn x) own) refl)
+          go false e =
+              let apart = eqb-false (placeIn x) q e in
+              cell-set-other (placesIn t) pg size (placeIn x) (own .inside) made made-length q h (λ s. apart (sym s))
+              ∙ rw (no-claim t x q (λ c. apart (c .named))) refl
+
+    -- the page keeps its length
+    pub taken-size : length (takeLeaves t pg x) ≡ length pg
+    taken-size = go (claim? t x (placeIn x))
+      where
+        go : Dec (Claims t x (placeIn x)) → length (takeLeaves t pg x) ≡ length pg
+        go (yes own) = claimed-size own
+        go (no none) = ap length (none-leaves t good pg size x none)
+
+    -- the cell that is claimed goes by the page rule, and the others are as they were
+    pub taken-cell : (q : ℕ) → q < placesIn t → cell (takeLeaves t pg x) q ≡ nextCell t q x (cell pg q)
+    taken-cell q h = go (claim? t x (placeIn x))
+      where
+        go : Dec (Claims t x (placeIn x)) → cell (takeLeaves t pg x) q ≡ nextCell t q x (cell pg q)
+        go (yes own) = claimed-cell own q h
+        go (no none) =
+            ap (λ (page : List ℕ). cell page q) (none-leaves t good pg size x none) ∙ rw (no-claim t x q (λ c. none (claims-own t x q c))) refl
+
+    -- whether a cell is refused does not change
+    pub bad-unmoved : (q : ℕ) → q < placesIn t → badCell q (cell (takeLeaves t pg x) q) ≡ badCell q (cell pg q)
+    bad-unmoved q h = ap (badCell q) (taken-cell q h) ∙ go (claims t x q) refl
+      where
+        go : (b : Bool) → claims t x q ≡ b → badCell q (pick b (arriveCell q x (cell pg q)) (cell pg q)) ≡ badCell q (cell pg q)
+        go true e = bad-stays q x (cell pg q) (claim-names t x q e)
+        go false e = refl
+
+  module _ (pg : List ℕ) (size : length pg ≡ pageLength (placesIn t)) (x y : List ℕ) where
+    size-then : length (takeLeaves t pg y) ≡ pageLength (placesIn t)
+    size-then = taken-size pg size y ∙ size
+
+    -- one take decides of no other whether it is refused
+    pub refusals-unmoved : refusals t (takeLeaves t pg y) x ≡ refusals t pg x
+    refusals-unmoved = go (claim? t x (placeIn x))
+      where
+        go : Dec (Claims t x (placeIn x)) → refusals t (takeLeaves t pg y) x ≡ refusals t pg x
+        go (yes own) =
+            claimed-refusals t good (takeLeaves t pg y) size-then x (placeIn x) own
+            ∙ ap (λ (b : Bool). pick {A = ℕ} b 1 0) (bad-unmoved pg size y (placeIn x) (own .inside))
+            ∙ sym (claimed-refusals t good pg size x (placeIn x) own)
+        go (no none) = none-refusals t good (takeLeaves t pg y) size-then x none ∙ sym (none-refusals t good pg size x none)
+
+    -- a cell after both
+    cell-two : (q : ℕ) → q < placesIn t → cell (takeLeaves t (takeLeaves t pg y) x) q ≡ nextCell t q x (nextCell t q y (cell pg q))
+    cell-two q h = taken-cell (takeLeaves t pg y) size-then x q h ∙ ap (nextCell t q x) (taken-cell pg size y q h)
+
+  next-two : (q : ℕ) (x y c : List ℕ) → nextCell t q x (nextCell t q y c) ≡ nextCell t q y (nextCell t q x c)
+  next-two q x y c = go (claims t x q) (claims t y q) refl refl
+    where
+      go : (a b : Bool) → claims t x q ≡ a → claims t y q ≡ b
+          → pick a (arriveCell q x (pick b (arriveCell q y c) c)) (pick b (arriveCell q y c) c)
+          ≡ pick b (arriveCell q y (pick a (arriveCell q x c) c)) (pick a (arriveCell q x c) c)
+      go true true e f = arrives-two q x y c (claim-names t x q e) (claim-names t y q f)
+      go true false e f = refl
+      go false true e f = refl
+      go false false e f = refl
+
+  pub pages-two : (pg : List ℕ) → length pg ≡ pageLength (placesIn t) → (x y : List ℕ)
+      → takeLeaves t (takeLeaves t pg x) y ≡ takeLeaves t (takeLeaves t pg y) x
+  pages-two pg size x y =
+      page-ext (placesIn t) (takeLeaves t (takeLeaves t pg x) y) (takeLeaves t (takeLeaves t pg y) x)
+      (taken-size (takeLeaves t pg x) (size-then pg size y x) y ∙ size-then pg size y x)
+      (taken-size (takeLeaves t pg y) (size-then pg size x y) x ∙ size-then pg size x y)
+      (λ q h. cell-two pg size y x q h ∙ next-two q y x (cell pg q) ∙ sym (cell-two pg size x y q h))
+
+-- a bad table or a page of another length: every take is refused, and nothing changes
+module _ (t pg : List ℕ) (shut : anyOf (failsOf (tableChecks t)) || wrongPage t pg ≡ true) where
+  shut-fails : (x : List ℕ) → anyOf (failsOf (takeChecks t pg x)) ≡ true
+  shut-fails x =
+      fails-then (tableChecks t) (takeRest t pg x)
+      ∙ go (anyOf (failsOf (tableChecks t))) (wrongPage t pg) (not (eqb (length x) 8)) (anyOf (failsOf (drop 1 (takeRest t pg x)))) shut
+    where
+      go : (a b c d : Bool) → a || b ≡ true → a || (c || (b || false) || d) ≡ true
+      go true b c d e = refl
+      go false true true d e = refl
+      go false true false d e = refl
+      go false false c d e = absurd (false≢true e)
+
+  pub shut-leaves : (x : List ℕ) → takeLeaves t pg x ≡ pg
+  shut-leaves x = fails-leaves (takeInto pg x) pg (takeChecks t pg x) (shut-fails x)
+
+  pub shut-refusals : (x : List ℕ) → refusals t pg x ≡ 1
+  unfolding refusals
+  shut-refusals x = rw (shut-fails x) refl

@@ -1,0 +1,171 @@
+-- A cell after any list of arrivals: it goes by those that claim its place, and by nothing else. Where nobody claims it, it is as it was; where all
+-- that claim it are equal, an empty cell holds that record; where two differ, it is contested. Assumes nothing.
+use Prim.Native.Nat.{ℕ, _<_}
+use mathlib.Core.Path.{_≡_, refl, sym, ap, _∙_}
+use mathlib.Core.List.{List, [], _∷_, List·Memᴰ, List·Memᴰ·head, List·Memᴰ·tail, List·Memᴰ·cases-cons, List·Memᴰ·not-nil}
+use mathlib.Core.Bool.{Bool, true, false, false≢true}
+use mathlib.Core.Logic.{_⊎_, ⊎-elim}
+use lib.ListN.{length}
+use Rattle.answers.specs.Checks.{pick}
+use Rattle.pairing.specs.Table.{placesIn, Good}
+use Rattle.rules.specs.Cell.{pageLength, cell, stateOf, heldCell, contestedCell, sameBytes}
+use Rattle.rules.specs.Taking.{claims, badCell, Received, arrive, after, arriveCell}
+use Rattle.rules.proofs.CellRule.{same-bytes, bytes-same, bytes-differ, differ-bytes, takes-empty, takes-held, takes-contested}
+use Rattle.rules.proofs.Claims.{nextCell}
+use Rattle.rules.proofs.Arrivals.{claim-names, taken-size, taken-cell}
+
+-- the cell c of place p, after xs
+unfoldable pub cellAfter : List ℕ → ℕ → List ℕ → List (List ℕ) → List ℕ
+cellAfter t p c [] = c
+cellAfter t p c (x ∷ xs) = cellAfter t p (nextCell t p x c) xs
+
+module _ (t : List ℕ) (good : Good t) where
+  pub after-size : (s : Received) (xs : List (List ℕ)) → length (s .page) ≡ pageLength (placesIn t) → length (after t s xs .page) ≡ pageLength (placesIn t)
+  unfolding after arrive
+  after-size s [] size = size
+  after-size s (x ∷ xs) size = after-size (arrive t s x) xs (taken-size t good (s .page) size x ∙ size)
+
+  pub cell-after : (s : Received) (xs : List (List ℕ)) → length (s .page) ≡ pageLength (placesIn t) → (p : ℕ) → p < placesIn t
+      → cell (after t s xs .page) p ≡ cellAfter t p (cell (s .page) p) xs
+  unfolding after arrive cellAfter
+  cell-after s [] size p h = refl
+  cell-after s (x ∷ xs) size p h =
+      cell-after (arrive t s x) xs (taken-size t good (s .page) size x ∙ size) p h
+      ∙ ap (λ (c : List ℕ). cellAfter t p c xs) (taken-cell t good (s .page) size x p h)
+
+-- ---- one arrival
+module _ (t : List ℕ) (p : ℕ) (x : List ℕ) where
+  pub passes-by : (c : List ℕ) → claims t x p ≡ false → nextCell t p x c ≡ c
+  passes-by c e = rw e refl
+
+  module _ (e : claims t x p ≡ true) where
+    fills : (c : List ℕ) → stateOf c ≡ 0 → nextCell t p x c ≡ heldCell x
+    unfolding badCell
+    fills c s = rw (e, s) (takes-empty x c s)
+
+    again : nextCell t p x (heldCell x) ≡ heldCell x
+    unfolding badCell
+    again = rw (e, claim-names t x p e) (takes-held x (heldCell x) refl ∙ rw (same-bytes x) refl)
+
+    disputes : (y : List ℕ) → claims t y p ≡ true → (y ≡ x → ⊥) → nextCell t p x (heldCell y) ≡ contestedCell
+    unfolding badCell
+    disputes y f apart = rw (e, claim-names t y p f) (takes-held x (heldCell y) refl ∙ rw (bytes-differ y x apart) refl)
+
+  stays-contested : nextCell t p x contestedCell ≡ contestedCell
+  unfolding badCell
+  stays-contested = go (claims t x p)
+    where
+      go : (b : Bool) → pick b (arriveCell p x contestedCell) contestedCell ≡ contestedCell
+      go true = takes-contested x contestedCell 0 refl
+      go false = refl
+
+-- ---- any list of them
+module _ (t : List ℕ) (p : ℕ) where
+  -- all of xs that claim p are equal to y
+  abbrev pub AllEqual : List (List ℕ) → List ℕ → Type 0
+  AllEqual xs y = (x : List ℕ) → List·Memᴰ x xs → claims t x p ≡ true → x ≡ y
+
+  pub nobody : (xs : List (List ℕ)) (c : List ℕ) → ((x : List ℕ) → List·Memᴰ x xs → claims t x p ≡ false) → cellAfter t p c xs ≡ c
+  unfolding cellAfter
+  nobody [] c none = refl
+  nobody (x ∷ xs) c none =
+      ap (λ (d : List ℕ). cellAfter t p d xs) (passes-by t p x c (none x (List·Memᴰ·head refl)))
+      ∙ nobody xs c (λ z m. none z (List·Memᴰ·tail m))
+
+  -- what is not the first stands behind it; and one that claims p is not one that does not
+  behind : (u x : List ℕ) (xs : List (List ℕ)) → (x ≡ u → ⊥) → List·Memᴰ u (x ∷ xs) → List·Memᴰ u xs
+  behind u x xs other m = ⊎-elim (λ same. absurd (other (sym same))) (λ n. n) (List·Memᴰ·cases-cons m)
+
+  apart-from : (u x : List ℕ) → claims t u p ≡ true → claims t x p ≡ false → x ≡ u → ⊥
+  apart-from u x e f same = false≢true (sym f ∙ ap (λ (v : List ℕ). claims t v p) same ∙ e)
+
+  -- a step by whether x claims p
+  by-claim : {A : Type 0} (x : List ℕ) → (claims t x p ≡ true → A) → (claims t x p ≡ false → A) → A
+  by-claim {A} x claimed not-claimed = go (claims t x p) refl
+    where
+      go : (b : Bool) → claims t x p ≡ b → A
+      go true e = claimed e
+      go false e = not-claimed e
+
+  keeps : (xs : List (List ℕ)) (y : List ℕ) → AllEqual xs y → cellAfter t p (heldCell y) xs ≡ heldCell y
+  unfolding cellAfter
+  keeps [] y all = refl
+  keeps (x ∷ xs) y all = ap (λ (d : List ℕ). cellAfter t p d xs) (by-claim x claimed (passes-by t p x (heldCell y))) ∙ keeps xs y (λ z m. all z (List·Memᴰ·tail m))
+    where
+      claimed : claims t x p ≡ true → nextCell t p x (heldCell y) ≡ heldCell y
+      claimed e = let same = all x (List·Memᴰ·head refl) e in rw (← same) (again t p x e)
+
+  -- all that claim p are equal to y, which is among them
+  pub all-equal : (xs : List (List ℕ)) (c y : List ℕ) → stateOf c ≡ 0 → List·Memᴰ y xs → claims t y p ≡ true → AllEqual xs y → cellAfter t p c xs ≡ heldCell y
+  unfolding cellAfter
+  all-equal [] c y s m e all = absurd (List·Memᴰ·not-nil m)
+  all-equal (x ∷ xs) c y s m e all = by-claim x claimed (λ f. passed f (all-equal xs c y s))
+    where
+      rest : AllEqual xs y
+      rest z n = all z (List·Memᴰ·tail n)
+
+      claimed : claims t x p ≡ true → cellAfter t p (nextCell t p x c) xs ≡ heldCell y
+      claimed f =
+          let same = all x (List·Memᴰ·head refl) f in
+          ap (λ (d : List ℕ). cellAfter t p d xs) (fills t p x f c s ∙ ap heldCell same) ∙ keeps xs y rest
+
+      passed : claims t x p ≡ false → (List·Memᴰ y xs → claims t y p ≡ true → AllEqual xs y → cellAfter t p c xs ≡ heldCell y)
+          → cellAfter t p (nextCell t p x c) xs ≡ heldCell y
+      passed f below =
+          ap (λ (d : List ℕ). cellAfter t p d xs) (passes-by t p x c f)
+          ∙ below (behind y x xs (apart-from y x e f) m) e rest
+
+  contested-for-good : (xs : List (List ℕ)) → cellAfter t p contestedCell xs ≡ contestedCell
+  unfolding cellAfter
+  contested-for-good [] = refl
+  contested-for-good (x ∷ xs) = ap (λ (d : List ℕ). cellAfter t p d xs) (stays-contested t p x) ∙ contested-for-good xs
+
+  -- a record that differs from the one that is held
+  disputed : (xs : List (List ℕ)) (y z : List ℕ) → claims t y p ≡ true → List·Memᴰ z xs → claims t z p ≡ true → (y ≡ z → ⊥)
+      → cellAfter t p (heldCell y) xs ≡ contestedCell
+  unfolding cellAfter
+  disputed [] y z e m f apart = absurd (List·Memᴰ·not-nil m)
+  disputed (x ∷ xs) y z e m f apart =
+      by-claim x (λ g. claimed g (sameBytes y x) refl (λ n. disputed xs y z e n f apart)) (λ g. passed g (λ n. disputed xs y z e n f apart))
+    where
+      claimed : claims t x p ≡ true → (b : Bool) → sameBytes y x ≡ b → (List·Memᴰ z xs → cellAfter t p (heldCell y) xs ≡ contestedCell)
+          → cellAfter t p (nextCell t p x (heldCell y)) xs ≡ contestedCell
+      claimed g true h below =
+          let same = bytes-same y x h in
+          ap (λ (d : List ℕ). cellAfter t p d xs) (ap (λ (u : List ℕ). nextCell t p x (heldCell u)) same ∙ again t p x g ∙ ap heldCell (sym same))
+          ∙ below (behind z x xs (λ other. apart (same ∙ other)) m)
+      claimed g false h below =
+          ap (λ (d : List ℕ). cellAfter t p d xs) (disputes t p x g y e (differ-bytes y x h))
+          ∙ contested-for-good xs
+
+      passed : claims t x p ≡ false → (List·Memᴰ z xs → cellAfter t p (heldCell y) xs ≡ contestedCell)
+          → cellAfter t p (nextCell t p x (heldCell y)) xs ≡ contestedCell
+      passed g below =
+          ap (λ (d : List ℕ). cellAfter t p d xs) (passes-by t p x (heldCell y) g)
+          ∙ below (behind z x xs (apart-from z x f g) m)
+
+  -- two that claim p differ
+  pub two-differ : (xs : List (List ℕ)) (c y z : List ℕ) → stateOf c ≡ 0 → List·Memᴰ y xs → claims t y p ≡ true → List·Memᴰ z xs → claims t z p ≡ true
+      → (y ≡ z → ⊥) → cellAfter t p c xs ≡ contestedCell
+  unfolding cellAfter
+  two-differ [] c y z s m e n f apart = absurd (List·Memᴰ·not-nil m)
+  two-differ (x ∷ xs) c y z s m e n f apart = by-claim x claimed (λ g. passed g (λ a b. two-differ xs c y z s a e b f apart))
+    where
+      -- one of the two is not x, and stands behind it
+      after-first : claims t x p ≡ true → (b : Bool) → sameBytes x y ≡ b → cellAfter t p (heldCell x) xs ≡ contestedCell
+      after-first g true h =
+          let same = bytes-same x y h in
+          let other : x ≡ z → ⊥ = λ e. apart (sym same ∙ e) in
+          disputed xs x z g (behind z x xs other n) f other
+      after-first g false h =
+          let other = differ-bytes x y h in
+          disputed xs x y g (behind y x xs other m) e other
+
+      claimed : claims t x p ≡ true → cellAfter t p (nextCell t p x c) xs ≡ contestedCell
+      claimed g = ap (λ (d : List ℕ). cellAfter t p d xs) (fills t p x g c s) ∙ after-first g (sameBytes x y) refl
+
+      passed : claims t x p ≡ false → (List·Memᴰ y xs → List·Memᴰ z xs → cellAfter t p c xs ≡ contestedCell)
+          → cellAfter t p (nextCell t p x c) xs ≡ contestedCell
+      passed g below =
+          ap (λ (d : List ℕ). cellAfter t p d xs) (passes-by t p x c g)
+          ∙ below (behind y x xs (apart-from y x e g) m) (behind z x xs (apart-from z x f g) n)

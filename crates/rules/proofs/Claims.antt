@@ -1,0 +1,108 @@
+-- What claims: a record of 8 bytes that names a place of the table claims that place and no other; anything else claims none and is refused. And
+-- what one take makes of the page, by that: the cell that is claimed goes by the page rule, and every other cell is as it was. Assumes nothing.
+use Prim.Native.Nat.{ℕ, _<_}
+use mathlib.Core.Path.{_≡_, refl, sym, ap, _∙_}
+use mathlib.Core.List.{List}
+use mathlib.Core.Bool.{Bool, true, false, not, _&&_, _||_, false≢true}
+use lib.Dec.{eqb}
+use lib.ListN.{length}
+use borrow.Author.Tests.{eqb-true, leb-false, lt-leb, eq-eqb}
+use Rattle.answers.specs.Checks.{pick, anyOf, failsOf, leaves}
+use Rattle.answers.proofs.InOrder.{fails-then, fails-leaves, passes-fails, passed-leaves}
+use Rattle.pairing.specs.Table.{placesIn, tableChecks, noSuchPlace, Good}
+use Rattle.records.specs.Record.{placeIn}
+use Rattle.rules.specs.Cell.{pageLength, cell, setCell}
+use Rattle.rules.specs.Taking.{names, claims, badCell, takeCell, wrongPage, takeRest, takeChecks, takeInto, takeLeaves, refusals, arriveCell}
+use Rattle.rules.proofs.Cells.{set-back}
+
+-- a claim, field by field
+pub record Claims (t x : List ℕ) (p : ℕ) : Type 0 where
+  pub eight : length x ≡ 8
+  pub named : placeIn x ≡ p
+  pub inside : p < placesIn t
+
+pub claim-is : (t x : List ℕ) (p : ℕ) → claims t x p ≡ true → Claims t x p
+unfolding claims
+claim-is t x p e = go (eqb (length x) 8) (names x p) (noSuchPlace t p) refl refl refl e
+  where
+    go : (a b c : Bool) → eqb (length x) 8 ≡ a → names x p ≡ b → noSuchPlace t p ≡ c → a && b && not c ≡ true → Claims t x p
+    go true true false p1 p2 p3 h =
+        record { eight = eqb-true (length x) 8 p1; named = eqb-true (placeIn x) p p2; inside = leb-false (placesIn t) p p3 }
+    go true true true p1 p2 p3 h = absurd (false≢true h)
+    go true false c p1 p2 p3 h = absurd (false≢true h)
+    go false b c p1 p2 p3 h = absurd (false≢true h)
+
+pub is-claim : (t x : List ℕ) (p : ℕ) → Claims t x p → claims t x p ≡ true
+unfolding claims
+is-claim t x p c = rw (eq-eqb (length x) 8 (c .eight), eq-eqb (placeIn x) p (c .named), lt-leb (placesIn t) p (c .inside)) refl
+
+pub no-claim : (t x : List ℕ) (p : ℕ) → (Claims t x p → ⊥) → claims t x p ≡ false
+no-claim t x p none = go (claims t x p) refl
+  where
+    go : (b : Bool) → claims t x p ≡ b → claims t x p ≡ false
+    go true e = absurd (none (claim-is t x p e))
+    go false e = e
+
+pub claim? : (t x : List ℕ) (p : ℕ) → Dec (Claims t x p)
+claim? t x p = go (claims t x p) refl
+  where
+    go : (b : Bool) → claims t x p ≡ b → Dec (Claims t x p)
+    go true e = yes (claim-is t x p e)
+    go false e = no (λ c. false≢true (sym e ∙ is-claim t x p c))
+
+-- a record claims the place that it names, or none
+pub claims-own : (t x : List ℕ) (p : ℕ) → Claims t x p → Claims t x (placeIn x)
+claims-own t x p c = rw (c .named) c
+
+-- what taking x makes of the cell c of place p
+abbrev pub nextCell : List ℕ → ℕ → List ℕ → List ℕ → List ℕ
+nextCell t p x c = pick (claims t x p) (arriveCell p x c) c
+
+module _ (t : List ℕ) (good : Good t) (pg : List ℕ) (size : length pg ≡ pageLength (placesIn t)) (x : List ℕ) where
+  right-page : wrongPage t pg ≡ false
+  right-page = rw (eq-eqb (length pg) (pageLength (placesIn t)) size) refl
+
+  leaves-rest : takeLeaves t pg x ≡ leaves (takeRest t pg x) (takeInto pg x) pg
+  leaves-rest = sym (passed-leaves (tableChecks t) (takeRest t pg x) (takeInto pg x) pg good)
+
+  fails-rest : anyOf (failsOf (takeChecks t pg x)) ≡ anyOf (failsOf (takeRest t pg x))
+  fails-rest = fails-then (tableChecks t) (takeRest t pg x) ∙ rw (passes-fails (tableChecks t) good) refl
+
+  -- a record that claims a place
+  module _ (p : ℕ) (c : Claims t x p) where
+    pub claimed-leaves : takeLeaves t pg x ≡ setCell pg p (arriveCell p x (cell pg p))
+    claimed-leaves =
+        leaves-rest
+        ∙ rw (c .named, eq-eqb (length x) 8 (c .eight), right-page, lt-leb (placesIn t) p (c .inside)) (go (badCell p (cell pg p)))
+      where
+        go : (b : Bool) → pick b pg (setCell pg p (takeCell x (cell pg p))) ≡ setCell pg p (pick b (cell pg p) (takeCell x (cell pg p)))
+        go true = sym (set-back (placesIn t) pg size p (c .inside))
+        go false = refl
+
+    pub claimed-refusals : refusals t pg x ≡ pick (badCell p (cell pg p)) 1 0
+    unfolding refusals
+    claimed-refusals =
+        ap (λ (b : Bool). pick {A = ℕ} b 1 0) fails-rest
+        ∙ rw (c .named, eq-eqb (length x) 8 (c .eight), right-page, lt-leb (placesIn t) p (c .inside)) (go (badCell p (cell pg p)))
+      where
+        go : (b : Bool) → pick {A = ℕ} (b || false) 1 0 ≡ pick b 1 0
+        go true = refl
+        go false = refl
+
+  -- what claims none
+  module _ (none : Claims t x (placeIn x) → ⊥) where
+    none-fails : anyOf (failsOf (takeChecks t pg x)) ≡ true
+    none-fails = fails-rest ∙ rw right-page (go (eqb (length x) 8) (noSuchPlace t (placeIn x)) refl refl)
+      where
+        go : (a b : Bool) → eqb (length x) 8 ≡ a → noSuchPlace t (placeIn x) ≡ b
+            → not a || false || (b || (badCell (placeIn x) (cell pg (placeIn x)) || false)) ≡ true
+        go true true e f = refl
+        go true false e f = absurd (none (record { eight = eqb-true (length x) 8 e; named = refl; inside = leb-false (placesIn t) (placeIn x) f }))
+        go false b e f = refl
+
+    pub none-leaves : takeLeaves t pg x ≡ pg
+    none-leaves = fails-leaves (takeInto pg x) pg (takeChecks t pg x) none-fails
+
+    pub none-refusals : refusals t pg x ≡ 1
+    unfolding refusals
+    none-refusals = rw none-fails refl

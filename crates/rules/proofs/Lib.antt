@@ -1,0 +1,11 @@
+pub mod Example
+pub mod CellAfter
+pub mod CellRule
+pub mod Arrivals
+pub mod Claims
+pub mod Counts
+pub mod EitherOrder
+pub mod Grown
+pub mod Runs
+pub mod Shows
+pub mod Cells

@@ -1,0 +1,106 @@
+-- A place that shows a point: its index, mended or not, is below the total of a usable shell of the row, for any enumeration. Assumes nothing.
+use Prim.Native.Nat.{ℕ, zero, suc, _+_, _-_, _^_, _≤_, _<_}
+use mathlib.Core.Path.{_≡_, refl, ap}
+use mathlib.Core.List.{List, _∷_}
+use mathlib.Core.Bool.{Bool, true, false, not}
+use native.Mathlib.Omega.{arith}
+use native.Mathlib.Decide.{decLt}
+use native.Mathlib.Nat.{pow-suc}
+use lib.Dec.{eqb, leb, ltb}
+use lib.IntN.{pos}
+use lib.ListN.{replicate, length-replicate}
+use borrow.Author.Tests.{leb-false, ltb-true, ltb-false}
+use Rattle.answers.specs.Checks.{pick}
+use Rattle.counts.specs.Width.{width}
+use Rattle.counts.proofs.Widths.{width-of-1, width-enough, width-tight}
+use Rattle.enumeration.specs.Enumeration.{Enumeration}
+use Rattle.enumeration.specs.Point.{OnShell, radiusOf}
+use Rattle.shell.specs.Shell.{IsUsable}
+use Rattle.rows.specs.Row.{lengthOf, radiiOf, radiusAt, GoodRow}
+use Rattle.records.specs.Record.{rowIn, numberIn, codewordIn}
+use Rattle.rules.specs.Cell.{stateOf, recordIn, byState}
+use Rattle.rules.specs.Judging.{judgeCodeword, judgeRecord, judge, Shows}
+use Rattle.rules.specs.declared.Judged.the-variants as judged
+
+-- a codeword below 2^b and not below the total: the total is not 1, where b is 0
+pub above-one : (total n : ℕ) → 0 < total → n < 2 ^ width total → total ≤ n → 1 < total
+above-one total n some inside above = go (decLt 1 total)
+  where
+    go : Dec (1 < total) → 1 < total
+    go (yes h) = h
+    go (no h) =
+        let one : total ≡ 1 = omega arith in
+        let none : n < 2 ^ width 1 = rw one at inside in
+        let no-bits : 2 ^ width 1 ≡ 1 = rw width-of-1 refl in
+        absurd (omega arith)
+
+-- so b is not 0
+pub some-bits : (total : ℕ) → 1 < total → 1 ≤ width total
+some-bits total h = go (width total) (width-enough total)
+  where
+    go : (b : ℕ) → total ≤ 2 ^ b → 1 ≤ b
+    go zero e = absurd (omega arith)
+    go (suc b) e = omega arith
+
+-- and what is left when 2^(b-1) is subtracted is below the total
+mended-below : (total n : ℕ) → 0 < total → n < 2 ^ width total → total ≤ n → n - 2 ^ (width total - 1) < total
+mended-below total n some inside above =
+    let more = above-one total n some inside above in
+    omega (arith, halves (width total) (some-bits total more), width-tight total more)
+  where
+    halves : (b : ℕ) → 1 ≤ b → 2 ^ b ≡ 2 ^ (b - 1) + 2 ^ (b - 1)
+    halves zero h = absurd (omega arith)
+    halves (suc b) h = let same : suc b - 1 ≡ b = omega arith in rw same (omega (arith, pow-suc 2 b))
+
+-- some point is on every shell of length 1 or more, so its total is not 0
+zeros-sum : (n : ℕ) → radiusOf (replicate n (pos 0)) ≡ 0
+zeros-sum zero = refl
+zeros-sum (suc n) = omega (arith, zeros-sum n)
+
+some-point : (l k : ℕ) → OnShell (suc l) k (pos k ∷ replicate l (pos 0))
+some-point l k = record { of-length = ap suc (length-replicate l (pos 0)); of-radius = omega (arith, zeros-sum l) }
+
+pub total-positive : (e : Enumeration) (l k : ℕ) → 1 ≤ l → 0 < e .total l k
+total-positive e zero k h = absurd (omega arith)
+total-positive e (suc l) k h = omega (arith, e .index-below (suc l) k (pos k ∷ replicate l (pos 0)) (some-point l k))
+
+module _ (e : Enumeration) (t : List ℕ) (r : ℕ) (row : GoodRow t r) where
+  codeword-shows : (k n : ℕ) → IsUsable (lengthOf t r) k → Shows e (lengthOf t r) (judgeCodeword (e .total (lengthOf t r) k) k n)
+  unfolding judgeCodeword
+  codeword-shows k n usable = go (leb (2 ^ width total) n) (ltb n total) refl refl
+    where
+      total : ℕ
+      total = e .total (lengthOf t r) k
+
+      go : (a b : Bool) → leb (2 ^ width total) n ≡ a → ltb n total ≡ b
+          → Shows e (lengthOf t r) (pick a (judged.Unreadable 14) (pick b (judged.Sound k n) (judged.Mended k (n - 2 ^ (width total - 1)))))
+      go true b p q = tt
+      go false true p q = record { usable = usable; below = ltb-true n total q }
+      go false false p q =
+          record {
+            usable = usable;
+            below = mended-below total n (total-positive e (lengthOf t r) k (row .length-from)) (leb-false (2 ^ width total) n p) (ltb-false n total q);
+          }
+
+  record-shows : (y : List ℕ) → Shows e (lengthOf t r) (judgeRecord e t r y)
+  unfolding judgeRecord
+  record-shows y = go (not (eqb (rowIn y) r)) (leb (radiiOf t r) (numberIn y)) refl
+    where
+      k : ℕ
+      k = radiusAt t r (numberIn y)
+
+      go : (a b : Bool) → leb (radiiOf t r) (numberIn y) ≡ b
+          → Shows e (lengthOf t r) (pick a (judged.Unreadable 9) (pick b (judged.Unreadable 10) (judgeCodeword (e .total (lengthOf t r) k) k (codewordIn y))))
+      go true b q = tt
+      go false true q = tt
+      go false false q = codeword-shows k (codewordIn y) (row .radius-usable (numberIn y) (leb-false (radiiOf t r) (numberIn y) q))
+
+  -- what a cell shows is the point of an index below the total
+  pub judge-shows : (c : List ℕ) → Shows e (lengthOf t r) (judge e t r c)
+  unfolding judge
+  judge-shows c = go (stateOf c)
+    where
+      go : (s : ℕ) → Shows e (lengthOf t r) (byState s judged.Missing (judgeRecord e t r (recordIn c)) judged.Contested)
+      go zero = tt
+      go (suc zero) = record-shows (recordIn c)
+      go (suc (suc s)) = tt

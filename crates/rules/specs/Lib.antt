@@ -1,0 +1,6 @@
+pub mod Cell
+pub mod Taking
+pub mod Judging
+pub mod Reading
+pub mod Tallying
+pub mod Example
