@@ -58,6 +58,11 @@ pub passes-fails : (cs : List Check) → Passes cs → anyOf (failsOf cs) ≡ fa
 passes-fails [] p = refl
 passes-fails (c ∷ cs) p = rw (p .0) (passes-fails cs (p .1))
 
+-- both of two lists of checks pass
+pub passes-apart : (cs ds : List Check) → Passes (cs ++ ds) → Passes cs × Passes ds
+passes-apart [] ds p = (tt, p)
+passes-apart (c ∷ cs) ds p = let rest = passes-apart cs ds (p .1) in ((p .0, rest .0), rest .1)
+
 pub refuses-fails : (cs : List Check) (n : ℕ) (vs : List ℕ) → Refuses cs n vs → anyOf (failsOf cs) ≡ true
 refuses-fails [] n vs r = absurd r
 refuses-fails (c ∷ cs) n vs r = ⊎-elim (λ h. rw (h .0)) (λ h. rw (h .0) (refuses-fails cs n vs (h .1))) r

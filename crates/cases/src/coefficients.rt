@@ -1,8 +1,8 @@
 // The cases of the call quantize, and of the whole number that a coefficient becomes. A coefficient is given by its bit pattern. The record is lent
 // full of nines, so that a refused call is seen to leave it.
+use crate::checks;
 use crate::input::number;
 use crate::output;
-use crate::tables;
 use answers::Refusal;
 use floats::inner::is_unusable;
 use floats::inner::nearest_whole;
@@ -23,7 +23,7 @@ pub fn nearest(numbers: &[u64]) {
     if is_unusable(x) {
         output::refused(Refusal::UnusableCoefficient { coordinate: 0 });
     } else {
-        output::field(b" = 0 ", nearest_whole(x) as u64);
+        output::answered(nearest_whole(x) as u64);
     }
 }
 
@@ -54,7 +54,7 @@ fn fill(numbers: &[u64], coefficients: &mut [f32]) {
 }
 
 fn with_table(numbers: &[u64], first: usize, coefficients: &[f32], table: &mut [u8]) {
-    tables::make(table, numbers, first);
+    checks::make(table, numbers, first);
     let mut record = [9; 12];
     let size = number(numbers, 1) as usize;
     if size <= 12 {
@@ -69,17 +69,17 @@ fn with_table(numbers: &[u64], first: usize, coefficients: &[f32], table: &mut [
 
 fn quantized(table: &[u8], place: usize, coefficients: &[f32], out: &mut [u8]) {
     match quantizer::quantize(table, place, coefficients, out) {
-        Quantized::Written => output::words(b" = 0"),
+        Quantized::Written => output::said(0),
         Quantized::Refused(refusal) => output::refused(refusal),
     }
-    output::words(b":");
+    output::colon();
     bytes(out);
 }
 
 pub fn bytes(out: &[u8]) {
     let mut at = 0;
     while at < out.len() {
-        output::field(b" ", out[at] as u64);
+        output::next(out[at] as u64);
         at += 1;
     }
 }

@@ -28,7 +28,7 @@ fn index_of(numbers: &[u64], x: &mut [i32]) {
 
 fn indexed(length: usize, radius: usize, x: &[i32]) {
     match points::index(Length(length), Radius(radius), x) {
-        Indexed::At(n) => output::field(b" = 0 ", n),
+        Indexed::At(n) => output::answered(n),
         Indexed::Refused(refusal) => output::refused(refusal),
     }
 }
@@ -56,10 +56,10 @@ fn point_into(numbers: &[u64], out: &mut [i32]) {
     let length = number(numbers, 0) as usize;
     let radius = number(numbers, 1) as usize;
     match points::point(Length(length), Radius(radius), number(numbers, 2), out) {
-        Pointed::Written => output::words(b" = 0"),
+        Pointed::Written => output::said(0),
         Pointed::Refused(refusal) => output::refused(refusal),
     }
-    output::words(b":");
+    output::colon();
     coordinates(out);
 }
 
@@ -72,10 +72,5 @@ pub fn coordinates(x: &[i32]) {
 }
 
 fn signed(c: i32) {
-    let m = product::inner::coordinate::magnitude(c);
-    if c < 0 {
-        output::field(b" -", m);
-    } else {
-        output::field(b" ", m);
-    }
+    output::signed(c < 0, product::inner::coordinate::magnitude(c));
 }

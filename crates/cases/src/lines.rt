@@ -1,11 +1,11 @@
 // The lines of the input, one after the other: each is written again, and if it is a case, it is run. The room is lent to the cases.
+use crate::checks;
 use crate::coefficients;
 use crate::indices;
 use crate::input;
 use crate::output;
 use crate::pages;
 use crate::shells;
-use crate::tables;
 ghost use Prim.Native.Nat.{_≤_};
 ghost use lib.ListN.{length};
 
@@ -50,8 +50,8 @@ fn case(line: &[u8], numbers: &[u64], room: &mut [u8]) {
         b's' => shells::of_length(numbers),
         b'i' => indices::index(numbers),
         b'p' => indices::point(numbers),
-        b't' => tables::check(numbers, room),
-        b'r' => tables::place(numbers, room),
+        b't' => checks::check(numbers, room),
+        b'r' => checks::place(numbers, room),
         b'n' => coefficients::nearest(numbers),
         b'q' => coefficients::quantize(numbers, room),
         b'T' | b'C' | b'R' | b'V' | b'A' => pages::run(letter, numbers, room),

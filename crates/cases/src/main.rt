@@ -2,6 +2,7 @@
 // written again, with what the call said behind it: 0 and its values, or a refusal's number and what it names. The file `stdin` has the cases
 // of document 01, "Proofs of single values", and more; the file `stdout` holds what they are to say: the document's values, and else what
 // another program worked out.
+mod checks;
 mod coefficients;
 mod indices;
 mod input;
@@ -9,7 +10,6 @@ mod lines;
 mod output;
 mod pages;
 mod shells;
-mod tables;
 
 use libc::STDIN_FILENO;
 

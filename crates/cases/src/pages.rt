@@ -1,10 +1,10 @@
 // The cases of the calls of the page. A line has two numbers for the call, then the size and the bytes of the page, the size and the bytes of
 // what arrives, and a table. A buffer for a point is lent full of nines.
+use crate::checks;
 use crate::coefficients::bytes;
 use crate::indices::coordinates;
 use crate::input::number;
 use crate::output;
-use crate::tables;
 use floats::inner::is_negative;
 use floats::inner::is_unusable;
 use floats::inner::nearest_whole;
@@ -73,7 +73,7 @@ fn made(
     arrived: &[u8],
     table: &mut [u8],
 ) {
-    tables::make(table, numbers, first);
+    checks::make(table, numbers, first);
     let a = number(numbers, 0) as usize;
     let b = number(numbers, 1) as usize;
     match call {
@@ -99,17 +99,17 @@ fn copy(numbers: &[u64], first: usize, out: &mut [u8])
 // Take 0 0: what the call says, and the page then.
 fn take(table: &[u8], page: &mut [u8], arrived: &[u8]) {
     match page::take(table, page, arrived) {
-        Arrival::Taken => output::words(b" = 0"),
+        Arrival::Taken => output::said(0),
         Arrival::Refused(refusal) => output::refused(refusal),
     }
-    output::words(b":");
+    output::colon();
     bytes(page);
 }
 
 // Collect 0 0: the number of refused takes, and the page then.
 fn collect(table: &[u8], page: &mut [u8], arrived: &[u8]) {
-    output::field(b" = ", page::collect(table, page, arrived) as u64);
-    output::words(b":");
+    output::said(page::collect(table, page, arrived) as u64);
+    output::colon();
     bytes(page);
 }
 
@@ -126,18 +126,23 @@ fn read_into(table: &[u8], page: &[u8], place: usize, out: &mut [i32]) {
         Reading::Answered(answer) => shown(answer),
         Reading::Refused(refusal) => output::refused(refusal),
     }
-    output::words(b":");
+    output::colon();
     coordinates(out);
 }
 
 fn shown(answer: Answer) {
     match answer {
-        Answer::Sound => output::words(b" = sound"),
-        Answer::Mended => output::words(b" = mended"),
-        Answer::Missing => output::words(b" = missing"),
-        Answer::Contested => output::words(b" = contested"),
-        Answer::Unreadable(reason) => output::field(b" = unreadable ", reason as u64),
+        Answer::Sound => output::answer(0),
+        Answer::Mended => output::answer(1),
+        Answer::Missing => output::answer(2),
+        Answer::Contested => output::answer(3),
+        Answer::Unreadable(reason) => unreadable(reason),
     }
+}
+
+fn unreadable(reason: u32) {
+    output::answer(4);
+    output::next(reason as u64);
 }
 
 // Value P I: what the call says of coordinate I of place P.
@@ -150,26 +155,21 @@ fn value(table: &[u8], page: &[u8], place: usize, coordinate: usize) {
 
 fn carried(value: Value) {
     match value {
-        Value::Sound(v) => scaled(b" = sound", v),
-        Value::Mended(v) => scaled(b" = mended", v),
-        Value::Missing => output::words(b" = missing"),
-        Value::Contested => output::words(b" = contested"),
-        Value::Unreadable(reason) => output::field(b" = unreadable ", reason as u64),
+        Value::Sound(v) => scaled(0, v),
+        Value::Mended(v) => scaled(1, v),
+        Value::Missing => output::answer(2),
+        Value::Contested => output::answer(3),
+        Value::Unreadable(reason) => unreadable(reason),
     }
 }
 
 // A value as a whole number over 256; a zero that is not positive has its sign too.
-fn scaled(text: &[u8], v: f32) {
-    output::words(text);
+fn scaled(answer: u8, v: f32) {
+    output::answer(answer);
     if is_unusable(v) {
-        output::words(b" none");
-        return;
-    }
-    let m = nearest_whole(v) as u64;
-    if is_negative(1.0 / v) {
-        output::field(b" -", m);
+        output::none();
     } else {
-        output::field(b" ", m);
+        output::signed(is_negative(1.0 / v), nearest_whole(v) as u64);
     }
 }
 
@@ -177,11 +177,11 @@ fn scaled(text: &[u8], v: f32) {
 fn tally(table: &[u8], page: &[u8]) {
     match page::tally(table, page) {
         Tallied::Counted(counts) => {
-            output::field(b" = 0 ", counts.sound as u64);
-            output::field(b" ", counts.mended as u64);
-            output::field(b" ", counts.missing as u64);
-            output::field(b" ", counts.contested as u64);
-            output::field(b" ", counts.unreadable as u64);
+            output::answered(counts.sound as u64);
+            output::next(counts.mended as u64);
+            output::next(counts.missing as u64);
+            output::next(counts.contested as u64);
+            output::next(counts.unreadable as u64);
         }
         Tallied::Refused(refusal) => output::refused(refusal),
     }

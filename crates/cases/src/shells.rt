@@ -10,14 +10,14 @@ pub fn count(numbers: &[u64]) {
     let length = number(numbers, 0) as usize;
     let radius = number(numbers, 1) as usize;
     match shell::count(Length(length), Radius(radius)) {
-        Counted::Points(n) => output::field(b" = 0 ", n),
+        Counted::Points(n) => output::answered(n),
         Counted::Refused(refusal) => output::refused(refusal),
     }
 }
 
 // width N: the width of this total.
 pub fn width(numbers: &[u64]) {
-    output::field(b" = ", shell::width(number(numbers, 0)) as u64);
+    output::said(shell::width(number(numbers, 0)) as u64);
 }
 
 struct Shells {
@@ -28,8 +28,8 @@ struct Shells {
 // shells L: how many of the radii 0 to 32 are usable at a length, and how many points those shells have in all.
 pub fn of_length(numbers: &[u64]) {
     let shells = shells_of(number(numbers, 0) as usize);
-    output::field(b" = ", shells.usable);
-    output::field(b" ", shells.points);
+    output::said(shells.usable);
+    output::next(shells.points);
 }
 
 fn shells_of(length: usize) -> Shells {

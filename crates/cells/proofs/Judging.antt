@@ -8,7 +8,7 @@ use Rattle.counts.proofs.Widths.{width-is, width-enough, width-tight}
 use Rattle.counts.specs.Width.{width}
 use Rattle.enumeration.specs.Enumeration.{Enumeration}
 use Rattle.records.specs.Record.{rowIn, numberIn, codewordIn}
-use Rattle.rows.specs.Row.{lengthOf, radiiOf, radiusAt}
+use Rattle.tables.specs.Row.{lengthOf, radiiOf, radiusAt}
 use Rattle.rules.proofs.Shows.{above-one, some-bits}
 use Rattle.rules.specs.Judging.{judgeCodeword, judgeRecord}
 use Rattle.rules.specs.declared.Judged.the-variants as judged

@@ -23,6 +23,10 @@ use Rattle.enumeration.proofs.Spread.{made}
 use Rattle.enumeration.proofs.RangeOf.{Holds, range-holds, range-found}
 use Rattle.enumeration.proofs.Product.{pattern-in, shape-in, in-parts, point-parts}
 
+-- the document's (1,0,-1) with bit 1 of its index changed
+turned : flipped 5 7 (pos 1 ∷ pos 0 ∷ negℤ (pos 1) ∷ []) ≡ negℤ (pos 1) ∷ pos 0 ∷ negℤ (pos 1) ∷ []
+turned = refl
+
 -- a zero stays what it is
 zero-stays : (b : Bool) → cond b (pos 0) (negℤ (pos 0)) ≡ pos 0
 zero-stays true = refl
@@ -65,7 +69,7 @@ module _ (n n′ m m′ : ℕ) where
 
 -- the start and the size of a range count blocks of 2^s
 module _ (l k s : ℕ) where
-  start-whole : O s l k / 2 ^ s * 2 ^ s ≡ O s l k
+  pub start-whole : O s l k / 2 ^ s * 2 ^ s ≡ O s l k
   start-whole =
       div-mul-cancel (2 ^ s) (dvd-trans (2 ^ s) (rw (pow-succ' 2 s) (dvd-mul-left (2 ^ s) 2)) (range-multiple S l k s))
 

@@ -6,6 +6,7 @@ pub mod Spread
 pub mod Parts
 pub mod Product
 pub mod Flips
+pub mod Bits
 pub mod Steps
 pub mod Example
 pub mod Tails

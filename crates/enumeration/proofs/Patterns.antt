@@ -1,4 +1,5 @@
 -- Patterns and their indices, for all lengths and numbers of nonzero coordinates:
+--     third-pattern                     a pattern of the document's example
 --     pattern-zero, pattern-nonzero     how the n-th pattern begins
 --     pattern-left, pattern-at-least    what is left where it begins with a nonzero; no more nonzero coordinates than the length
 --     pattern-read                      the n-th pattern has length l, s nonzero coordinates and index n
@@ -12,11 +13,16 @@ use native.Mathlib.Omega.{arith}
 use native.Mathlib.Decide.{decLt}
 use lib.ListN.{length}
 use borrow.Author.Tests.{lt-ltb, le-ltb}
-use Rattle.counts.specs.Counts.{D}
+use Rattle.counts.specs.Counts.{binomial, D}
 use Rattle.counts.proofs.Pascal.{D-zero, D-addition, D-small}
 use Rattle.enumeration.specs.Point.{nonzeros}
 use Rattle.enumeration.specs.Product.{patternIndex}
 use Rattle.enumeration.specs.Reading.{patternOf}
+
+-- the last of the three patterns of length 3 with two nonzero coordinates
+third-pattern : patternIndex (true ∷ true ∷ false ∷ []) ≡ 2
+unfolding patternIndex D binomial
+third-pattern = refl
 
 pub pattern-zero : (s l n : ℕ) → n < D s l → patternOf s (suc l) n ≡ false ∷ patternOf s l n
 unfolding patternOf

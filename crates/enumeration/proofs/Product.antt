@@ -9,7 +9,7 @@ use lib.Arith.{digits-lt, digits-div, digits-mod}
 use lib.IntN.{ℤ}
 use lib.ListN.{length}
 use lib.Pow.{pow-pos}
-use Rattle.counts.specs.Counts.{N, D, S, B, R, O, most, rangeSize}
+use Rattle.counts.specs.Counts.{N, binomial, D, S, B, R, O, most, sumAfter, rangeSize, rangeStart}
 use Rattle.counts.proofs.Ranges.{end-bound}
 use Rattle.enumeration.specs.Point.{OnShell, radiusOf, patternIn, nonzerosIn, shapeIn, signsIn}
 use Rattle.enumeration.specs.Enumeration.{Enumeration}
@@ -17,6 +17,11 @@ use Rattle.enumeration.specs.Product.{patternIndex, shapeIndex, signInde
 use Rattle.enumeration.specs.Reading.{rangeOf, pointFrom, pointIn, productPoint}
 use Rattle.enumeration.proofs.RangeOf.{Holds, range-holds, range-found}
 use Rattle.enumeration.proofs.Parts.{pattern-part, shape-part, sign-part, nonzeros-part, parts-back, IsOf, from-parts}
+
+-- the document's (1,0,-1) has pattern 1, shape 0 and signs 1, and index 5
+weighs-5 : weigh 2 3 2 1 0 1 ≡ 5
+unfolding weigh binomial D S B sumAfter rangeSize rangeStart
+weighs-5 = refl
 
 pub B-positive : (s : ℕ) → 0 < B s
 unfolding B

@@ -1,4 +1,5 @@
 -- Shapes and their indices, for all numbers of magnitudes and sums:
+--     second-shape                 a shape of two magnitudes
 --     first-1, first-more          how the first magnitude is found, and what number of a shape is left
 --     first-read, first-back       its offset and what is left make up the number; and it is found again from them
 --     shape-at-least, last-read    no more magnitudes than their sum; the last one is all that is left
@@ -13,11 +14,16 @@ use native.Mathlib.Decide.{decLt, le-ind}
 use native.Mathlib.Nat.{le-refl, zero-add, suc-add}
 use lib.ListN.{length}
 use borrow.Author.Tests.{lt-ltb, le-ltb}
-use Rattle.counts.specs.Counts.{S}
+use Rattle.counts.specs.Counts.{binomial, S}
 use Rattle.counts.proofs.Pascal.{S-none, S-addition, S-small}
 use Rattle.enumeration.specs.Point.{sumOf}
 use Rattle.enumeration.specs.Product.{shapeOffset, shapeIndex}
 use Rattle.enumeration.specs.Reading.{firstMagnitude, shapeLeft, shapeOf}
+
+-- the second of the two shapes that sum to 3 with two magnitudes
+second-shape : shapeIndex (2 ∷ 1 ∷ []) ≡ 1
+unfolding shapeIndex shapeOffset S binomial
+second-shape = refl
 
 pub S-start : S 0 0 ≡ 1
 unfolding S

@@ -1,4 +1,5 @@
 -- Signs and their index, for any number of signs:
+--     first-highest                the first sign has the highest bit
 --     signs-length, signs-read     what the low s bits of n are as signs: s of them, with index n mod 2^s
 --     sign-below, signs-back       the index of s signs is below 2^s, and they are read back from it whatever stands above it
 --     bit-below                    a bit below s is the same whatever stands above the low s bits
@@ -15,6 +16,11 @@ use lib.ListN.{length}
 use lib.Pow.{pow-pos, pow-add, high}
 use Rattle.enumeration.specs.Product.{signBit, signIndex}
 use Rattle.enumeration.specs.Reading.{bit, signsOf}
+
+-- the first of two signs is the higher bit
+first-highest : signIndex (true ∷ false ∷ []) ≡ 2
+unfolding signIndex
+first-highest = refl
 
 pub signs-length : (s n : ℕ) → length (signsOf s n) ≡ s
 unfolding signsOf

@@ -13,7 +13,7 @@ use Rattle.answers.proofs.InOrder.{Numbered, says-passes, passes-fails, fails-t
 use Rattle.answers.specs.Checks.{anyOf, failsOf}
 use Rattle.answers.specs.Refusals.{meaning}
 use Rattle.answers.specs.declared.Refusal.{Refusal}
-use Rattle.pairing.specs.Table.{tableChecks}
+use Rattle.tables.specs.Table.{tableChecks}
 use Rattle.rules.proofs.Runs.{parts-next, parts-none, parts-count, shut-after}
 use Rattle.rules.specs.Taking.{takeRest, takeChecks, takeInto, takeSaysIn, takeLeavesIn, takeLeaves, refusals, Received, arrive, after, partsOf, collected}
 use Rattle.page.specs.Bounds.{Sized}

@@ -8,7 +8,7 @@ use Rattle.answers.specs.Checks.{pick}
 use Rattle.cells.specs.Bounds.{InTable}
 use Rattle.enumeration.proofs.Product.{product}
 use Rattle.enumeration.specs.Enumeration.{Enumeration}
-use Rattle.rows.specs.Row.{lengthOf}
+use Rattle.tables.specs.Row.{lengthOf}
 use Rattle.rules.proofs.Shows.{judge-shows}
 use Rattle.rules.specs.Cell.{cellLength, cell}
 use Rattle.rules.specs.Judging.{judge, Shows}

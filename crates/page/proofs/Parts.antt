@@ -7,10 +7,11 @@ use mathlib.Core.Path.{_≡_, refl}
 use native.Mathlib.Nat.{le-refl}
 use native.Mathlib.Omega.{arith}
 use lib.ListN.{length, take, drop}
-use borrow.Author.Tests.{eq-eqb, ne-eqb}
-use Rattle.pairing.proofs.Good.{good-total}
-use Rattle.pairing.specs.Table.{placesIn, Surveys}
-use Rattle.rows.specs.Row.{rowsOf}
+use borrow.Author.Tests.{ne-eqb}
+use Rattle.tables.proofs.Good.{good-total}
+use Rattle.tables.specs.Table.{placesIn, Surveys}
+use Rattle.tables.specs.Row.{rowsOf}
+use Rattle.rules.proofs.Claims as claims
 use Rattle.rules.proofs.Cells.{length-cell}
 use Rattle.rules.specs.Cell.{cellLength, pageLength, cell, setCell}
 use Rattle.rules.specs.Taking.{wrongPage}
@@ -54,7 +55,7 @@ module _ {t : List ℕ} {places : ℕ} (sized : Sized t places) where
       page-size = omega (arith, is-size, sized .is-places)
 
       pub right-page : wrongPage t pg ≡ false
-      right-page = rw (eq-eqb (length pg) (pageLength (placesIn t)) page-size) refl
+      right-page = claims.right-page t pg page-size
 
       -- the cell of a place is in the page, and has 9 bytes
       module _ {p : ℕ} (h : p < places) where

@@ -7,8 +7,8 @@ use native.Mathlib.Omega.{arith}
 use borrow.Author.Tests.{le-leb, lt-leb}
 use Rattle.cells.specs.Bounds.{InTable}
 use Rattle.enumeration.specs.Enumeration.{Enumeration}
-use Rattle.pairing.proofs.Good.{good-place}
-use Rattle.pairing.specs.Table.{placesIn, noSuchPlace, Surveys}
+use Rattle.tables.proofs.Good.{good-place}
+use Rattle.tables.specs.Table.{placesIn, noSuchPlace, Surveys}
 use Rattle.rules.specs.Cell.{cell}
 use Rattle.rules.specs.Judging.{judge, judgeAt}
 use Rattle.page.proofs.Parts.{sized-by, inside}

@@ -8,8 +8,8 @@ use lib.ListN.{length, getD}
 use borrow.Author.Tests.{le-leb, lt-leb, eq-eqb, ne-eqb}
 use Rattle.enumeration.specs.Enumeration.{Enumeration}
 use Rattle.floats.specs.Exact.{over256}
-use Rattle.pairing.specs.Table.{rowOf, Surveys}
-use Rattle.rows.specs.Row.{lengthOf, stepOf}
+use Rattle.tables.specs.Table.{rowOf, Surveys}
+use Rattle.tables.specs.Row.{lengthOf, stepOf}
 use Rattle.rules.specs.Cell.{cellLength}
 use Rattle.rules.specs.Judging.{shown}
 use Rattle.rules.specs.Reading.{told, carried, readSaysIn, readLeavesIn, coefficientSaysIn, coefficientCarriesIn}

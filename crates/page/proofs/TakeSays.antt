@@ -8,7 +8,7 @@ use lib.Dec.{eqb}
 use lib.ListN.{length}
 use borrow.Author.Tests.{le-leb, lt-leb, eqb-true, not-false}
 use Rattle.answers.proofs.InOrder.{none-of}
-use Rattle.pairing.specs.Table.{placesIn}
+use Rattle.tables.specs.Table.{placesIn}
 use Rattle.records.specs.Record.{placeIn}
 use Rattle.rules.proofs.Cells.{set-back}
 use Rattle.rules.specs.Cell.{cellLength, pageLength, cell, setCell}

@@ -10,8 +10,8 @@ use lib.ListN.{length, getD, set}
 use Rattle.answers.proofs.Each.{each-refused, each-passed, none-left}
 use Rattle.answers.specs.Checks.{firstOf, eachFrom}
 use Rattle.enumeration.specs.Enumeration.{Enumeration}
-use Rattle.pairing.specs.Table.{placesIn}
-use Rattle.rows.specs.Row.{placesOf}
+use Rattle.tables.specs.Table.{placesIn}
+use Rattle.tables.specs.Row.{placesOf}
 use Rattle.rules.proofs.Counts.{five-answers, counts-next, counts-to}
 use Rattle.rules.specs.Cell.{cellLength, cell}
 use Rattle.rules.specs.Judging.{judge, judgeAt, answerNumber}

@@ -8,11 +8,11 @@ use native.Mathlib.Nat.{zero-add}
 use native.Mathlib.Numerals.{add-one}
 use native.Mathlib.Omega.{arith}
 use Rattle.cells.specs.Bounds.{InTable}
-use Rattle.pairing.proofs.Good.{right-size, good-row, good-total}
-use Rattle.pairing.proofs.Places.{row-only}
-use Rattle.pairing.proofs.Rows.{total-next}
-use Rattle.pairing.specs.Table.{placesBefore, placesIn, rowOf}
-use Rattle.rows.specs.Row.{placesOf, rowsOf}
+use Rattle.tables.proofs.Good.{right-size, good-row, good-total}
+use Rattle.tables.proofs.Places.{row-only}
+use Rattle.tables.proofs.Rows.{total-next}
+use Rattle.tables.specs.Table.{placesBefore, placesIn, rowOf}
+use Rattle.tables.specs.Row.{placesOf, rowsOf}
 use Rattle.page.specs.Bounds.{Sized, Walked, AtRow}
 
 module _ {t : List ℕ} {row end p : ℕ} (on : Walked t row end p) (inside : p < placesIn t) where

@@ -2,8 +2,8 @@
 use Prim.Native.Nat.{ℕ, suc, _≤_, _<_}
 use mathlib.Core.Path.{_≡_}
 use mathlib.Core.List.{List}
-use Rattle.rows.specs.Row.{rowsOf}
-use Rattle.pairing.specs.Table.{placesBefore, placesIn, Good, InRow}
+use Rattle.tables.specs.Row.{rowsOf}
+use Rattle.tables.specs.Table.{placesBefore, placesIn, Good, InRow}
 
 -- a good table of so many places
 pub record Sized (t : List ℕ) (places : ℕ) : Type 0 where

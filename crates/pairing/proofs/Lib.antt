@@ -1,6 +1,3 @@
-pub mod Rows
-pub mod Places
-pub mod Good
+pub mod Surveys
 pub mod OneToOne
-pub mod Example
 pub mod Refused

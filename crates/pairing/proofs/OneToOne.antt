@@ -8,7 +8,7 @@ use Rattle.pairing.specs.declared.Checked.{Checked}
 use Rattle.pairing.specs.declared.Checked.the-variants as checked
 use Rattle.pairing.specs.declared.inner.survey.Surveyed.{Surveyed}
 use Rattle.pairing.specs.declared.inner.survey.Surveyed.the-variants as surveyed
-use Rattle.pairing.specs.Table.{checkMeaning, surveyMeaning}
+use Rattle.pairing.specs.Meanings.{checkMeaning, surveyMeaning}
 
 checkedOf : List ℕ → Checked
 checkedOf vs = answerOf (λ n. checked.Places (getD n 0 0)) checked.Refused vs

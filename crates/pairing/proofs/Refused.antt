@@ -7,7 +7,8 @@ use Rattle.answers.specs.Refusals.{meaning}
 use Rattle.answers.specs.Checks.{Check, anyOf, firstOf, leaves, failsOf}
 use Rattle.answers.specs.declared.Refusal.{Refusal}
 use Rattle.answers.proofs.InOrder.{refused-says, refused-leaves, refusal-fails}
-use Rattle.pairing.specs.Table.{placesIn, tableChecks, rowOf, surveyMeaning, surveySays}
+use Rattle.tables.specs.Table.{placesIn, tableChecks, rowOf, surveySays}
+use Rattle.pairing.specs.Meanings.{surveyMeaning}
 use Rattle.pairing.specs.declared.inner.survey.Surveyed.{Surveyed}
 use Rattle.pairing.specs.declared.inner.survey.Surveyed.the-variants as surveyed
 

@@ -6,7 +6,8 @@ use answers::Refusal;
 use inner::survey::Surveyed;
 use inner::survey::survey;
 ghost use mathlib.Core.Path.{_≡_};
-ghost use Rattle.pairing.specs.Table.{checkMeaning, checkSays};
+ghost use Rattle.tables.specs.Table.{checkSays};
+ghost use Rattle.pairing.specs.Meanings.{checkMeaning};
 
 pub enum Checked {
     Places(usize),

@@ -9,7 +9,7 @@ use lib.ListN.{length}
 use Rattle.answers.specs.Refusals.{meaning}
 use Rattle.answers.specs.Checks.{Check, wrongLength, firstOf, leaves}
 use Rattle.counts.specs.Counts.{N}
-use Rattle.shell.specs.Shell.{shellChecks}
+use Rattle.tables.specs.Usable.{shellChecks}
 use Rattle.enumeration.specs.Point.{radiusOf}
 use Rattle.enumeration.specs.Product.{productIndex}
 use Rattle.enumeration.specs.Reading.{productPoint}

@@ -10,7 +10,7 @@ use product::inner::weigh::index_of;
 use shell::Shell;
 use shell::check_shell;
 ghost use mathlib.Core.Path.{_≡_};
-ghost use Rattle.shell.specs.Shell.{IsUsable};
+ghost use Rattle.tables.specs.Usable.{IsUsable};
 ghost use Rattle.points.specs.Calls.{indexMeaning, indexSays, indexSaysIn, pointMeaning, pointSays, pointSaysIn, pointLeaves, pointLeavesIn};
 
 pub enum Indexed {

@@ -16,7 +16,7 @@ use Rattle.enumeration.specs.Product.{patternIndex, shapeOffset, shapeIndex, si
 use Rattle.enumeration.proofs.Parts.{pattern-part, shape-part, sign-part, nonzeros-part}
 use Rattle.enumeration.proofs.Shapes.{S-start}
 use Rattle.enumeration.proofs.Steps.{nonzeros-grow, pattern-grows, shape-grows, sign-grows}
-use Rattle.shell.proofs.Sizes.{D-small-enough, S-small-enough, B-small-enough}
+use Rattle.ranges.proofs.Sizes.{D-small-enough, S-small-enough, B-small-enough}
 use Rattle.product.specs.declared.inner.parts.Parts.{Parts}
 use Rattle.product.specs.Parts.{partsOf, grown, Room}
 use Rattle.product.proofs.Coordinates.{nonzero-value}

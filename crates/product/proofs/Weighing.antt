@@ -12,7 +12,7 @@ use Rattle.enumeration.specs.Point.{OnShell, radiusOf, nonzerosIn, shapeIn}
 use Rattle.enumeration.specs.Product.{shapeIndex, weigh, productIndex}
 use Rattle.enumeration.proofs.Parts.{shape-part, nonzeros-part}
 use Rattle.enumeration.proofs.Product.{B-positive, index-below, zero-index}
-use Rattle.shell.specs.Shell.{IsUsable}
+use Rattle.tables.specs.Usable.{IsUsable}
 use Rattle.product.specs.declared.inner.parts.Parts.{Parts}
 use Rattle.product.specs.Parts.{partsOf, weighed, Weighable}
 

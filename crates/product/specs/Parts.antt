@@ -6,7 +6,7 @@ use mathlib.Core.List.{List}
 use mathlib.Core.Bool.{Bool}
 use lib.IntN.{ℤ}
 use Rattle.counts.specs.Counts.{N, D, S, B, O}
-use Rattle.shell.specs.Shell.{IsUsable}
+use Rattle.tables.specs.Usable.{IsUsable}
 use Rattle.enumeration.specs.Point.{radiusOf, patternIn, nonzerosIn, shapeIn, signsIn}
 use Rattle.enumeration.specs.Product.{patternIndex, shapeOffset, shapeIndex, signBit, signIndex, weigh}
 use Rattle.enumeration.specs.Reading.{rangeOf, pointFrom}

@@ -14,12 +14,15 @@ use Rattle.answers.specs.declared.Refusal.{Refusal}
 use Rattle.answers.proofs.InOrder.{none-of, refusal-leaves, says-passes, passes-leaves}
 use Rattle.answers.proofs.Each.{each-passes, each-numbered}
 use Rattle.enumeration.specs.Product.{productIndex}
-use Rattle.rows.specs.Row.{lengthOf, rowsOf}
-use Rattle.pairing.specs.Table.{placesIn, rowOf, Surveys}
-use Rattle.pairing.proofs.Good.{good-place}
+use Rattle.tables.specs.Row.{lengthOf, rowsOf}
+use Rattle.tables.specs.Table.{placesIn, rowOf, Surveys}
+use Rattle.tables.proofs.Good.{good-place}
 use Rattle.records.specs.Record.{recordOf}
-use Rattle.quantizer.specs.Bounds.{AllUsable, Writable}
-use Rattle.quantizer.specs.Calls.{wrongLengths, coefficientCheck, coefficientChecks, coefficientsSay, numberFor, pointFor, recordFor, quantizeSaysIn, quantizeLeavesIn}
+use Rattle.vectors.specs.Coefficients.{AllUsable}
+use Rattle.coding.specs.Bounds.{Writable}
+use Rattle.vectors.specs.Coefficients.{coefficientCheck, coefficientChecks, coefficientsSay}
+use Rattle.coding.specs.Coded.{numberFor, pointFor}
+use Rattle.quantizer.specs.Calls.{wrongLengths, recordFor, quantizeSaysIn, quantizeLeavesIn}
 
 -- no buffer has a wrong length
 right-lengths : (l vector bytes : ℕ) → wrongLengths l vector bytes ≡ false → (vector ≡ l) × (bytes ≡ 8)

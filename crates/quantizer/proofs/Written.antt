@@ -11,16 +11,17 @@ use Rattle.counts.specs.Counts.{N}
 use Rattle.enumeration.specs.Point.{OnShell}
 use Rattle.enumeration.specs.Product.{productIndex}
 use Rattle.enumeration.proofs.Product.{index-below}
-use Rattle.rows.specs.Row.{lengthOf, radiiOf, GoodRow, rowsOf}
-use Rattle.pairing.specs.Table.{Good, placesIn, rowOf}
-use Rattle.pairing.proofs.Good.{right-size, good-total, good-place}
-use Rattle.records.specs.Record.{Holds, Fits}
-use Rattle.shell.specs.Shell.{IsUsable}
+use Rattle.tables.specs.Row.{lengthOf, radiiOf, GoodRow, rowsOf}
+use Rattle.tables.specs.Table.{Good, placesIn, rowOf}
+use Rattle.tables.proofs.Good.{right-size, good-total, good-place}
+use Rattle.records.specs.Record.{recordOf, Holds}
+use Rattle.tables.specs.Usable.{IsUsable}
 use Rattle.records.proofs.Fields.{record-holds}
-use Rattle.quantizer.specs.Calls.{numberFor, radiusFor, pointFor, recordFor}
-use Rattle.quantizer.specs.Points.{totalOf}
-use Rattle.quantizer.proofs.Points.{point-on-shell}
-use Rattle.quantizer.proofs.Radii.{number-below, some-total}
+use Rattle.coding.specs.Coded.{numberFor, radiusFor, pointFor}
+use Rattle.quantizer.specs.Calls.{recordFor}
+use Rattle.vectors.specs.Points.{totalOf}
+use Rattle.vectors.proofs.Points.{point-on-shell}
+use Rattle.vectors.proofs.Radii.{number-below, some-total}
 
 module _ (t : List ℕ) (p : ℕ) (xs : List Float) (good : Good t) (h : p < placesIn t) (long : length xs ≡ lengthOf t (rowOf t p)) where
   row-good : GoodRow t (rowOf t p)
@@ -41,13 +42,16 @@ module _ (t : List ℕ) (p : ℕ) (xs : List Float) (good : Good t) (h : p < pla
   pub codeword-below : productIndex (pointFor t (rowOf t p) xs) < N (lengthOf t (rowOf t p)) (radiusFor t (rowOf t p) xs)
   codeword-below = index-below (lengthOf t (rowOf t p)) (radiusFor t (rowOf t p) xs) (pointFor t (rowOf t p) xs) point-in
 
-  fields-fit : Fits p (rowOf t p) (numberFor t (rowOf t p) xs) (productIndex (pointFor t (rowOf t p) xs))
-  fields-fit = record {
-    place-fits = omega (arith, h, good-total t good (rowsOf t) (le-refl (rowsOf t)));
-    row-fits = omega (arith, good-place t p good h .0, right-size t good .rows-to);
-    number-fits = omega (arith, number-in, row-good .radii-to);
-    codeword-fits = lt-of-lt-of-le codeword-below (shell-usable .points-to);
-  }
+  -- a record with that radius number and any codeword below the count holds its fields
+  pub fields-held : (codeword : ℕ) → codeword < N (lengthOf t (rowOf t p)) (radiusFor t (rowOf t p) xs)
+      → Holds (recordOf p (rowOf t p) (numberFor t (rowOf t p) xs) codeword) p (rowOf t p) (numberFor t (rowOf t p) xs) codeword
+  fields-held codeword below =
+      record-holds p (rowOf t p) (numberFor t (rowOf t p) xs) codeword (record {
+        place-fits = omega (arith, h, good-total t good (rowsOf t) (le-refl (rowsOf t)));
+        row-fits = omega (arith, good-place t p good h .0, right-size t good .rows-to);
+        number-fits = omega (arith, number-in, row-good .radii-to);
+        codeword-fits = lt-of-lt-of-le below (shell-usable .points-to);
+      })
 
   pub record-written : Holds (recordFor t p xs) p (rowOf t p) (numberFor t (rowOf t p) xs) (productIndex (pointFor t (rowOf t p) xs))
-  record-written = record-holds p (rowOf t p) (numberFor t (rowOf t p) xs) (productIndex (pointFor t (rowOf t p) xs)) fields-fit
+  record-written = fields-held (productIndex (pointFor t (rowOf t p) xs)) codeword-below

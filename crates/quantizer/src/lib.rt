@@ -1,17 +1,16 @@
-// The call quantize (document 01, "Quantizing into a record"): one vector of coefficients into the record of a place. What it is made of stands
-// in `inner`.
-pub mod inner;
+// The call quantize (document 01, "Quantizing into a record"): one vector of coefficients into the record of a place. What it works with stands
+// in `vectors` and `coding`.
 
 use answers::Refusal;
-use inner::coefficients::Coefficients;
-use inner::coefficients::check_coefficients;
-use inner::record::write_record;
+use coding::inner::write_record;
 use pairing::inner::survey::Surveyed;
 use pairing::inner::survey::survey;
 use rows::inner::row;
+use vectors::inner::coefficients::Coefficients;
+use vectors::inner::coefficients::check_coefficients;
 ghost use mathlib.Core.Path.{_≡_};
-ghost use Rattle.rows.specs.Row.{lengthOf, rowsOf};
-ghost use Rattle.pairing.specs.Table.{Surveys};
+ghost use Rattle.tables.specs.Row.{lengthOf, rowsOf};
+ghost use Rattle.tables.specs.Table.{Surveys};
 ghost use Rattle.quantizer.specs.Calls.{wrongLengths, quantizeMeaning, quantizeSays, quantizeSaysIn, quantizeLeaves, quantizeLeavesIn};
 ghost use Prim.Native.Nat.{_<_};
 

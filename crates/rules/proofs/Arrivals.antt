@@ -9,7 +9,7 @@ use lib.ListN.{length, drop}
 use borrow.Author.Tests.{eqb-true, eqb-false, eq-eqb}
 use Rattle.answers.specs.Checks.{pick, anyOf, failsOf}
 use Rattle.answers.proofs.InOrder.{fails-then, fails-leaves}
-use Rattle.pairing.specs.Table.{placesIn, tableChecks, Good}
+use Rattle.tables.specs.Table.{placesIn, tableChecks, Good}
 use Rattle.records.specs.Record.{placeIn}
 use Rattle.rules.specs.Cell.{pageLength, cell, setCell}
 use Rattle.rules.specs.Taking.{names, claims, badCell, wrongPage, takeRest, takeChecks, takeInto, takeLeaves, refusals, arriveCell}

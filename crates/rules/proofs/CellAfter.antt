@@ -4,12 +4,12 @@ use Prim.Native.Nat.{ℕ, _<_}
 use mathlib.Core.Path.{_≡_, refl, sym, ap, _∙_}
 use mathlib.Core.List.{List, [], _∷_, List·Memᴰ, List·Memᴰ·head, List·Memᴰ·tail, List·Memᴰ·cases-cons, List·Memᴰ·not-nil}
 use mathlib.Core.Bool.{Bool, true, false, false≢true}
-use mathlib.Core.Logic.{_⊎_, ⊎-elim}
+use mathlib.Core.Logic.{⊎-elim}
 use lib.ListN.{length}
 use Rattle.answers.specs.Checks.{pick}
-use Rattle.pairing.specs.Table.{placesIn, Good}
+use Rattle.tables.specs.Table.{placesIn, Good}
 use Rattle.rules.specs.Cell.{pageLength, cell, stateOf, heldCell, contestedCell, sameBytes}
-use Rattle.rules.specs.Taking.{claims, badCell, Received, arrive, after, arriveCell}
+use Rattle.rules.specs.Taking.{claims, badCell, Received, arrive, after, arriveCell, Nobody, AllEqual}
 use Rattle.rules.proofs.CellRule.{same-bytes, bytes-same, bytes-differ, differ-bytes, takes-empty, takes-held, takes-contested}
 use Rattle.rules.proofs.Claims.{nextCell}
 use Rattle.rules.proofs.Arrivals.{claim-names, taken-size, taken-cell}
@@ -61,11 +61,7 @@ module _ (t : List ℕ) (p : ℕ) (x : List ℕ) where
 
 -- ---- any list of them
 module _ (t : List ℕ) (p : ℕ) where
-  -- all of xs that claim p are equal to y
-  abbrev pub AllEqual : List (List ℕ) → List ℕ → Type 0
-  AllEqual xs y = (x : List ℕ) → List·Memᴰ x xs → claims t x p ≡ true → x ≡ y
-
-  pub nobody : (xs : List (List ℕ)) (c : List ℕ) → ((x : List ℕ) → List·Memᴰ x xs → claims t x p ≡ false) → cellAfter t p c xs ≡ c
+  pub nobody : (xs : List (List ℕ)) (c : List ℕ) → Nobody t xs p → cellAfter t p c xs ≡ c
   unfolding cellAfter
   nobody [] c none = refl
   nobody (x ∷ xs) c none =
@@ -87,7 +83,7 @@ module _ (t : List ℕ) (p : ℕ) where
       go true e = claimed e
       go false e = not-claimed e
 
-  keeps : (xs : List (List ℕ)) (y : List ℕ) → AllEqual xs y → cellAfter t p (heldCell y) xs ≡ heldCell y
+  keeps : (xs : List (List ℕ)) (y : List ℕ) → AllEqual t xs p y → cellAfter t p (heldCell y) xs ≡ heldCell y
   unfolding cellAfter
   keeps [] y all = refl
   keeps (x ∷ xs) y all = ap (λ (d : List ℕ). cellAfter t p d xs) (by-claim x claimed (passes-by t p x (heldCell y))) ∙ keeps xs y (λ z m. all z (List·Memᴰ·tail m))
@@ -96,12 +92,12 @@ module _ (t : List ℕ) (p : ℕ) where
       claimed e = let same = all x (List·Memᴰ·head refl) e in rw (← same) (again t p x e)
 
   -- all that claim p are equal to y, which is among them
-  pub all-equal : (xs : List (List ℕ)) (c y : List ℕ) → stateOf c ≡ 0 → List·Memᴰ y xs → claims t y p ≡ true → AllEqual xs y → cellAfter t p c xs ≡ heldCell y
+  pub all-equal : (xs : List (List ℕ)) (c y : List ℕ) → stateOf c ≡ 0 → List·Memᴰ y xs → claims t y p ≡ true → AllEqual t xs p y → cellAfter t p c xs ≡ heldCell y
   unfolding cellAfter
   all-equal [] c y s m e all = absurd (List·Memᴰ·not-nil m)
   all-equal (x ∷ xs) c y s m e all = by-claim x claimed (λ f. passed f (all-equal xs c y s))
     where
-      rest : AllEqual xs y
+      rest : AllEqual t xs p y
       rest z n = all z (List·Memᴰ·tail n)
 
       claimed : claims t x p ≡ true → cellAfter t p (nextCell t p x c) xs ≡ heldCell y
@@ -109,7 +105,7 @@ module _ (t : List ℕ) (p : ℕ) where
           let same = all x (List·Memᴰ·head refl) f in
           ap (λ (d : List ℕ). cellAfter t p d xs) (fills t p x f c s ∙ ap heldCell same) ∙ keeps xs y rest
 
-      passed : claims t x p ≡ false → (List·Memᴰ y xs → claims t y p ≡ true → AllEqual xs y → cellAfter t p c xs ≡ heldCell y)
+      passed : claims t x p ≡ false → (List·Memᴰ y xs → claims t y p ≡ true → AllEqual t xs p y → cellAfter t p c xs ≡ heldCell y)
           → cellAfter t p (nextCell t p x c) xs ≡ heldCell y
       passed f below =
           ap (λ (d : List ℕ). cellAfter t p d xs) (passes-by t p x c f)

@@ -9,7 +9,7 @@ use lib.ListN.{length}
 use borrow.Author.Tests.{eqb-true, leb-false, lt-leb, eq-eqb}
 use Rattle.answers.specs.Checks.{pick, anyOf, failsOf, leaves}
 use Rattle.answers.proofs.InOrder.{fails-then, fails-leaves, passes-fails, passed-leaves}
-use Rattle.pairing.specs.Table.{placesIn, tableChecks, noSuchPlace, Good}
+use Rattle.tables.specs.Table.{placesIn, tableChecks, noSuchPlace, Good}
 use Rattle.records.specs.Record.{placeIn}
 use Rattle.rules.specs.Cell.{pageLength, cell, setCell}
 use Rattle.rules.specs.Taking.{names, claims, badCell, takeCell, wrongPage, takeRest, takeChecks, takeInto, takeLeaves, refusals, arriveCell}
@@ -58,10 +58,11 @@ claims-own t x p c = rw (c .named) c
 abbrev pub nextCell : List ℕ → ℕ → List ℕ → List ℕ → List ℕ
 nextCell t p x c = pick (claims t x p) (arriveCell p x c) c
 
-module _ (t : List ℕ) (good : Good t) (pg : List ℕ) (size : length pg ≡ pageLength (placesIn t)) (x : List ℕ) where
-  right-page : wrongPage t pg ≡ false
-  right-page = rw (eq-eqb (length pg) (pageLength (placesIn t)) size) refl
+-- a page of the right length
+pub right-page : (t pg : List ℕ) → length pg ≡ pageLength (placesIn t) → wrongPage t pg ≡ false
+right-page t pg size = rw (eq-eqb (length pg) (pageLength (placesIn t)) size) refl
 
+module _ (t : List ℕ) (good : Good t) (pg : List ℕ) (size : length pg ≡ pageLength (placesIn t)) (x : List ℕ) where
   leaves-rest : takeLeaves t pg x ≡ leaves (takeRest t pg x) (takeInto pg x) pg
   leaves-rest = sym (passed-leaves (tableChecks t) (takeRest t pg x) (takeInto pg x) pg good)
 
@@ -73,7 +74,7 @@ module _ (t : List ℕ) (good : Good t) (pg : List ℕ) (size : length pg ≡ pa
     pub claimed-leaves : takeLeaves t pg x ≡ setCell pg p (arriveCell p x (cell pg p))
     claimed-leaves =
         leaves-rest
-        ∙ rw (c .named, eq-eqb (length x) 8 (c .eight), right-page, lt-leb (placesIn t) p (c .inside)) (go (badCell p (cell pg p)))
+        ∙ rw (c .named, eq-eqb (length x) 8 (c .eight), right-page t pg size, lt-leb (placesIn t) p (c .inside)) (go (badCell p (cell pg p)))
       where
         go : (b : Bool) → pick b pg (setCell pg p (takeCell x (cell pg p))) ≡ setCell pg p (pick b (cell pg p) (takeCell x (cell pg p)))
         go true = sym (set-back (placesIn t) pg size p (c .inside))
@@ -83,7 +84,7 @@ module _ (t : List ℕ) (good : Good t) (pg : List ℕ) (size : length pg ≡ pa
     unfolding refusals
     claimed-refusals =
         ap (λ (b : Bool). pick {A = ℕ} b 1 0) fails-rest
-        ∙ rw (c .named, eq-eqb (length x) 8 (c .eight), right-page, lt-leb (placesIn t) p (c .inside)) (go (badCell p (cell pg p)))
+        ∙ rw (c .named, eq-eqb (length x) 8 (c .eight), right-page t pg size, lt-leb (placesIn t) p (c .inside)) (go (badCell p (cell pg p)))
       where
         go : (b : Bool) → pick {A = ℕ} (b || false) 1 0 ≡ pick b 1 0
         go true = refl
@@ -92,7 +93,7 @@ module _ (t : List ℕ) (good : Good t) (pg : List ℕ) (size : length pg ≡ pa
   -- what claims none
   module _ (none : Claims t x (placeIn x) → ⊥) where
     none-fails : anyOf (failsOf (takeChecks t pg x)) ≡ true
-    none-fails = fails-rest ∙ rw right-page (go (eqb (length x) 8) (noSuchPlace t (placeIn x)) refl refl)
+    none-fails = fails-rest ∙ rw (right-page t pg size) (go (eqb (length x) 8) (noSuchPlace t (placeIn x)) refl refl)
       where
         go : (a b : Bool) → eqb (length x) 8 ≡ a → noSuchPlace t (placeIn x) ≡ b
             → not a || false || (b || (badCell (placeIn x) (cell pg (placeIn x)) || false)) ≡ true

@@ -9,7 +9,7 @@ use lib.ListN.{length, getD, set}
 use Rattle.answers.specs.Checks.{pick}
 use Rattle.enumeration.specs.Enumeration.{Enumeration}
 use Rattle.enumeration.specs.Point.{sumOf}
-use Rattle.pairing.specs.Table.{placesIn}
+use Rattle.tables.specs.Table.{placesIn}
 use Rattle.rules.specs.Judging.{judgeAt, answerNumber}
 use Rattle.rules.specs.Tallying.{countOf, countsOf, answersIn, tallyOf}
 use Rattle.rules.specs.declared.Judged.{Judged}

@@ -10,7 +10,7 @@ use lib.ListN.{length}
 use borrow.Author.Tests.{eqb-true, not-false}
 use Rattle.answers.specs.Checks.{anyOf, failsOf}
 use Rattle.answers.proofs.InOrder.{none-of}
-use Rattle.pairing.specs.Table.{placesIn, tableChecks, Good}
+use Rattle.tables.specs.Table.{placesIn, tableChecks, Good}
 use Rattle.rules.specs.Cell.{pageLength}
 use Rattle.rules.specs.Taking.{wrongPage, Received, arrive}
 use Rattle.rules.proofs.Arrivals.{pages-two, refusals-unmoved, shut-leaves, shut-refusals}

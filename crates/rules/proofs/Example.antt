@@ -6,8 +6,8 @@ use Rattle.counts.specs.Width.{width, bitsFrom}
 use Rattle.enumeration.specs.Product.{patternIndex, shapeOffset, shapeIndex, signIndex, weigh, productIndex}
 use Rattle.enumeration.specs.Reading.{rangeFrom, rangeOf, patternOf, firstMagnitude, shapeLeft, shapeOf, signsOf, pointFrom, pointIn, productPoint}
 use Rattle.floats.specs.Exact.{over256}
-use Rattle.rows.specs.Row.{byteOf, badRadius, badRadii, badRow}
-use Rattle.pairing.specs.Table.{placesBefore, rowsBefore}
+use Rattle.tables.specs.Row.{byteOf, badRadius, badRadii, badRow}
+use Rattle.tables.specs.Table.{placesBefore, rowsBefore}
 use Rattle.rules.specs.Cell.{cell, setCell}
 use Rattle.rules.specs.Taking.{badCell, takeCell, refusals, arrive, after, partsFrom}
 use Rattle.rules.specs.Judging.{judgeCodeword, judgeRecord, judge}
@@ -41,6 +41,7 @@ example =
       codeword-0-1 = refl;
       reason-9 = refl;
       reason-10 = refl;
+      other-fields = refl;
       short = refl;
       beyond = refl;
       foreign = refl;

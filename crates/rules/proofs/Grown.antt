@@ -7,9 +7,9 @@ use mathlib.Core.Bool.{false}
 use native.Mathlib.Omega.{arith}
 use lib.ListN.{length, getD, replicate, length-replicate, getD-replicate}
 use lib.Seq.{ext-getD}
-use Rattle.pairing.specs.Table.{placesIn, Good}
+use Rattle.tables.specs.Table.{placesIn, Good}
 use Rattle.rules.specs.Cell.{pageLength, cell, emptyPage}
-use Rattle.rules.specs.Taking.{badCell, Received, arrive, after}
+use Rattle.rules.specs.Taking.{badCell, Received, arrive, after, empty, grown}
 use Rattle.rules.proofs.Cells.{length-cell, cell-byte}
 use Rattle.rules.proofs.Arrivals.{taken-size, bad-unmoved}
 
@@ -36,11 +36,7 @@ module _ (t : List ℕ) (good : Good t) where
   bad-after s (x ∷ xs) size p h =
       bad-after (arrive t s x) xs (taken-size t good (s .page) size x ∙ size) p h ∙ bad-unmoved t good (s .page) size x p h
 
-  -- the page after xs, from empty
-  abbrev pub grown : List (List ℕ) → List ℕ
-  grown xs = after t (record { page = emptyPage (placesIn t); refused = 0 }) xs .page
-
-  pub grown-not-bad : (xs : List (List ℕ)) (p : ℕ) → p < placesIn t → badCell p (cell (grown xs) p) ≡ false
+  pub grown-not-bad : (xs : List (List ℕ)) (p : ℕ) → p < placesIn t → badCell p (cell (grown t xs) p) ≡ false
   unfolding badCell
   grown-not-bad xs p h =
-      bad-after (record { page = emptyPage (placesIn t); refused = 0 }) xs (empty-size (placesIn t)) p h ∙ rw (empty-cell (placesIn t) p h) refl
+      bad-after (empty t) xs (empty-size (placesIn t)) p h ∙ rw (empty-cell (placesIn t) p h) refl

@@ -8,7 +8,7 @@ use native.Mathlib.Omega.{arith}
 use native.Mathlib.Nat.{add-zero}
 use lib.ListN.{length, take, drop, length-drop}
 use Rattle.answers.specs.Checks.{anyOf, failsOf}
-use Rattle.pairing.specs.Table.{tableChecks}
+use Rattle.tables.specs.Table.{tableChecks}
 use Rattle.rules.specs.Taking.{wrongPage, Received, arrive, after, partsFrom, partsOf}
 use Rattle.rules.proofs.Arrivals.{shut-leaves, shut-refusals}
 

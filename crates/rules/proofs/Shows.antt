@@ -15,8 +15,8 @@ use Rattle.counts.specs.Width.{width}
 use Rattle.counts.proofs.Widths.{width-of-1, width-enough, width-tight}
 use Rattle.enumeration.specs.Enumeration.{Enumeration}
 use Rattle.enumeration.specs.Point.{OnShell, radiusOf}
-use Rattle.shell.specs.Shell.{IsUsable}
-use Rattle.rows.specs.Row.{lengthOf, radiiOf, radiusAt, GoodRow}
+use Rattle.tables.specs.Usable.{IsUsable}
+use Rattle.tables.specs.Row.{lengthOf, radiiOf, radiusAt, GoodRow}
 use Rattle.records.specs.Record.{rowIn, numberIn, codewordIn}
 use Rattle.rules.specs.Cell.{stateOf, recordIn, byState}
 use Rattle.rules.specs.Judging.{judgeCodeword, judgeRecord, judge, Shows}

@@ -7,7 +7,7 @@ use lib.Ieee.{binary32, toBits}
 use lib.IntN.{ℤ, pos, negsuc}
 use lib.ListN.{take, replicate}
 use Rattle.enumeration.proofs.Product.{product}
-use Rattle.rows.specs.Example.{wholeCase}
+use Rattle.tables.specs.Example.{wholeCase}
 use Rattle.rules.specs.Cell.{emptyPage, heldCell, contestedCell}
 use Rattle.rules.specs.Taking.{takeSays, takeLeaves, collected}
 use Rattle.rules.specs.Judging.{judge}
@@ -73,6 +73,8 @@ pub record Example : Type 0 where
   -- the reasons in their order
   pub reason-9 : judge product wholeCase 0 (heldCell (of 0 1 2 99)) ≡ judged.Unreadable 9
   pub reason-10 : judge product wholeCase 0 (heldCell (of 0 0 2 99)) ≡ judged.Unreadable 10
+  -- a record with a foreign row, no such radius number and a huge codeword is taken all the same
+  pub other-fields : takeLeaves wholeCase (emptyPage 2) (of 0 1 9 255) ≡ heldCell (of 0 1 9 255) ++ replicate 9 0
   -- refusals: 4 before 8, 8, 12 at the record's own place, 13 before 12, and 12 with the lowest place
   pub short : takeSays wholeCase page (take 7 (of 2 0 1 5)) ≡ 4 ∷ []
   pub beyond : takeSays wholeCase page (of 2 0 1 5) ≡ 8 ∷ []

@@ -9,9 +9,9 @@ use lib.ListN.{replicate}
 use Rattle.answers.specs.Checks.{pick}
 use Rattle.counts.specs.Width.{width}
 use Rattle.enumeration.specs.Enumeration.{Enumeration}
-use Rattle.rows.specs.Row.{lengthOf, radiiOf, radiusAt}
-use Rattle.pairing.specs.Table.{rowOf}
-use Rattle.shell.specs.Shell.{IsUsable}
+use Rattle.tables.specs.Row.{lengthOf, radiiOf, radiusAt}
+use Rattle.tables.specs.Table.{rowOf}
+use Rattle.tables.specs.Usable.{IsUsable}
 use Rattle.records.specs.Record.{rowIn, numberIn, codewordIn}
 use Rattle.rules.specs.Cell.{cell, stateOf, recordIn, byState}
 use Rattle.rules.specs.declared.Judged.{Judged}

@@ -9,8 +9,8 @@ use lib.ListN.{length, getD}
 use Rattle.answers.specs.Checks.{Check, anyOf, firstOf, leaves, wrongLength}
 use Rattle.enumeration.specs.Enumeration.{Enumeration}
 use Rattle.floats.specs.Exact.{over256}
-use Rattle.rows.specs.Row.{lengthOf, stepOf}
-use Rattle.pairing.specs.Table.{tableChecks, noSuchPlace, rowOf}
+use Rattle.tables.specs.Row.{lengthOf, stepOf}
+use Rattle.tables.specs.Table.{tableChecks, noSuchPlace, rowOf}
 use Rattle.rules.specs.Cell.{cell}
 use Rattle.rules.specs.Taking.{badCell, wrongPage}
 use Rattle.rules.specs.Judging.{judgeAt, answerNumber, reasonOf, shown}

@@ -1,14 +1,15 @@
 -- Taking records into a page (document 01, "The page", "Refusal numbers" and "Order of checks"). t is the table's bytes, pg the page's, x those of
 -- a record or of what arrived for one; all of them any, of any length. Assumes nothing.
 use Prim.Native.Nat.{ℕ, zero, suc, _+_, _/_}
-use mathlib.Core.List.{List, [], _∷_, _++_}
-use mathlib.Core.Bool.{Bool, not, _&&_}
+use mathlib.Core.Path.{_≡_}
+use mathlib.Core.List.{List, [], _∷_, _++_, List·Memᴰ}
+use mathlib.Core.Bool.{Bool, true, false, not, _&&_}
 use lib.Dec.{eqb, ltb}
 use lib.ListN.{length, take, drop}
 use Rattle.answers.specs.Checks.{Check, anyOf, pick, firstOf, leaves, failsOf, wrongLength}
-use Rattle.pairing.specs.Table.{placesIn, tableChecks, noSuchPlace}
+use Rattle.tables.specs.Table.{placesIn, tableChecks, noSuchPlace}
 use Rattle.records.specs.Record.{placeIn}
-use Rattle.rules.specs.Cell.{pageLength, cell, setCell, stateOf, recordIn, heldCell, contestedCell, byState, sameBytes}
+use Rattle.rules.specs.Cell.{pageLength, cell, setCell, emptyPage, stateOf, recordIn, heldCell, contestedCell, byState, sameBytes}
 
 -- a record names a place
 abbrev pub names : List ℕ → ℕ → Bool
@@ -83,6 +84,21 @@ arrive t s x = record { page = takeLeaves t (s .page) x; refused = s .refused + 
 unfoldable pub after : List ℕ → Received → List (List ℕ) → Received
 after t s [] = s
 after t s (x ∷ xs) = after t (arrive t s x) xs
+
+-- from an empty page on
+abbrev pub empty : List ℕ → Received
+empty t = record { page = emptyPage (placesIn t); refused = 0 }
+
+abbrev pub grown : List ℕ → List (List ℕ) → List ℕ
+grown t xs = after t (empty t) xs .page
+
+-- of all that arrives, nothing claims p
+abbrev pub Nobody : List ℕ → List (List ℕ) → ℕ → Type 0
+Nobody t xs p = (x : List ℕ) → List·Memᴰ x xs → claims t x p ≡ false
+
+-- and all that claim p are equal to y
+abbrev pub AllEqual : List ℕ → List (List ℕ) → ℕ → List ℕ → Type 0
+AllEqual t xs p y = (x : List ℕ) → List·Memᴰ x xs → claims t x p ≡ true → x ≡ y
 
 -- a run of bytes is taken eight by eight, and a shorter last part too
 unfoldable pub partsFrom : ℕ → List ℕ → List (List ℕ)

@@ -5,7 +5,7 @@ use mathlib.Core.List.{List, [], _∷_, _++_}
 use lib.Dec.{eqb}
 use Rattle.answers.specs.Checks.{Check, pick, firstOf, eachFrom}
 use Rattle.enumeration.specs.Enumeration.{Enumeration}
-use Rattle.pairing.specs.Table.{placesIn, tableChecks}
+use Rattle.tables.specs.Table.{placesIn, tableChecks}
 use Rattle.rules.specs.Cell.{cell}
 use Rattle.rules.specs.Taking.{badCell, wrongPage}
 use Rattle.rules.specs.Judging.{judgeAt, answerNumber}

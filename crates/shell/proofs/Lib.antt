@@ -1,4 +1,1 @@
-pub mod Largest
 pub mod OneToOne
-pub mod Sizes
-pub mod Usable

@@ -1,2 +1,1 @@
 pub mod Shell
-pub mod Largest

@@ -1,15 +1,17 @@
-// The shells and their counts (document 01, "Points and counts"): the call count, and the width of a total. The counts that the index
-// is made of stand in `inner`.
-pub mod inner;
+// The shells and their counts (document 01, "Points and counts"): the call count, and the width of a total. What the counts are made of
+// stands in `ranges`.
 
 use answers::Refusal;
 use counts::Length;
 use counts::Radius;
+use ranges::inner::largest_radius;
+use ranges::inner::point_count;
 ghost use mathlib.Core.Path.{_≡_};
 ghost use mathlib.Core.List.{[], _∷_};
 ghost use Rattle.answers.specs.Checks.{firstOf};
 ghost use Rattle.counts.specs.Width as widths;
-ghost use Rattle.shell.specs.Shell.{shellChecks, shellMeaning, countMeaning, countSays};
+ghost use Rattle.tables.specs.Usable.{shellChecks};
+ghost use Rattle.shell.specs.Shell.{shellMeaning, countMeaning, countSays};
 
 pub enum Shell {
     Usable,
@@ -26,7 +28,7 @@ pub fn count(length: Length, radius: Radius) -> Counted
     ensures { λ r. ⌜ countMeaning r ≡ countSays (length .0) (radius .0) ⌝ }
 {
     match check_shell(length, radius) {
-        Shell::Usable => Counted::Points(inner::point_count(length, radius)),
+        Shell::Usable => Counted::Points(point_count(length, radius)),
         Shell::Unusable(refusal) => Counted::Refused(refusal),
     }
 }
@@ -44,7 +46,7 @@ pub fn check_shell(length: Length, radius: Radius) -> Shell
     if 32 < radius.0 {
         return Shell::Unusable(Refusal::RadiusAbove);
     }
-    if inner::largest_radius(length) < radius.0 {
+    if largest_radius(length) < radius.0 {
         return Shell::Unusable(Refusal::ShellTooLarge);
     }
     Shell::Usable

@@ -6,10 +6,10 @@ use Rattle.enumeration.specs.Product.{patternIndex, shapeOffset, shapeIndex, si
 use Rattle.enumeration.specs.Reading.{rangeFrom, rangeOf, patternOf, firstMagnitude, shapeLeft, shapeOf, signsOf, pointFrom, pointIn, productPoint}
 use Rattle.floats.specs.Units.{ofPattern, unitsOf, unusable, negative}
 use Rattle.floats.specs.Nearest.{nearestWhole}
-use Rattle.rows.specs.Row.{byteOf, badRadius, badRadii, badRow}
-use Rattle.pairing.specs.Table.{placesBefore, rowsBefore}
+use Rattle.tables.specs.Row.{byteOf, badRadius, badRadii, badRow}
+use Rattle.tables.specs.Table.{placesBefore, rowsBefore}
 use Rattle.shares.specs.Best.{firstBest}
-use Rattle.quantizer.specs.Radius.{chosenNumber}
+use Rattle.vectors.specs.Radius.{chosenNumber}
 use Rattle.shares.specs.Shares.{largest, give, shared}
 use Rattle.records.specs.Record.{recordOf}
 use lib.Ieee.{toBits, lt}

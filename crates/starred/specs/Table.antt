@@ -5,22 +5,21 @@ use mathlib.Core.Path.{_≡_}
 use mathlib.Core.Bool.{true, false}
 use mathlib.Core.List.{List, [], _∷_}
 use lib.Bits.{bitXor}
-use lib.Ieee.{Float, nan, fin}
+use lib.Ieee.{nan, fin}
 use lib.IntN.{ℤ, pos, negsuc, negℤ}
 use lib.ListN.{replicate}
 use Rattle.counts.specs.Counts.{N}
 use Rattle.counts.specs.Width.{width}
-use Rattle.shell.specs.Shell.{tooMany, countSays}
+use Rattle.tables.specs.Usable.{tooMany}
+use Rattle.shell.specs.Shell.{countSays}
 use Rattle.enumeration.specs.Example.{triple}
-use Rattle.rows.specs.Example.{wholeCase}
+use Rattle.tables.specs.Example.{wholeCase}
 use Rattle.points.specs.Calls.{indexSays, pointSays, pointLeaves}
-use Rattle.quantizer.specs.Calls.{pointFor, quantizeSays, quantizeLeaves}
-use Rattle.quantizer.specs.Radius.{chosenRadius}
-use Rattle.quantizer.specs.Points.{pointOf}
-
--- the document's vector (1.5, 0, -0.75)
-abbrev vector : List Float
-vector = fin false 3 (negsuc 0) ∷ fin false 0 (pos 0) ∷ fin true 3 (negsuc 1) ∷ []
+use Rattle.coding.specs.Coded.{pointFor}
+use Rattle.quantizer.specs.Calls.{quantizeSays, quantizeLeaves}
+use Rattle.vectors.specs.Example.{vector}
+use Rattle.vectors.specs.Radius.{chosenRadius}
+use Rattle.vectors.specs.Points.{pointOf}
 
 -- a lent record
 abbrev held : List ℕ

@@ -1,19 +1,19 @@
 // The answer of a cell, in a row of a good table.
 use counts::Length;
 use counts::Radius;
+use ranges::inner::point_count;
+use ranges::inner::power;
 use records::inner::codeword_in;
 use records::inner::number_in;
 use records::inner::row_in;
 use rows::inner::row;
 use rules::Judged;
-use shell::inner::point_count;
-use shell::inner::power;
 use shell::width;
 ghost use mathlib.Core.Path.{_≡_};
 ghost use lib.ListN.{length};
 ghost use Rattle.counts.specs.Counts.{N};
 ghost use Rattle.enumeration.proofs.Product.{product};
-ghost use Rattle.shell.specs.Shell.{IsUsable};
+ghost use Rattle.tables.specs.Usable.{IsUsable};
 ghost use Rattle.rules.specs.Cell.{cellLength};
 ghost use Rattle.rules.specs.Judging as rules;
 ghost use Rattle.rules.specs.Judging.{judgeCodeword, judgeRecord};

@@ -5,9 +5,9 @@ use mathlib.Core.Path.{_∙_}
 use borrow.Author.Needs.{needs}
 use Rattle.answers.proofs.InOrder.{passed-says, passed-leaves}
 use Rattle.enumeration.proofs.Product.{product}
-use Rattle.pairing.proofs.Good.{survey-good}
+use Rattle.pairing.proofs.Surveys.{survey-good}
 use Rattle.pairing.proofs.Refused.{table-says, table-leaves}
-use Rattle.pairing.specs.Table.{tableChecks}
+use Rattle.tables.specs.Table.{tableChecks}
 use Rattle.rules.specs.Judging.{judgeAt}
 use Rattle.rules.specs.Reading as answers
 use Rattle.rules.specs.Reading.{carried, valueAt, coefficientRest}

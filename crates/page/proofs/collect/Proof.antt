@@ -1,7 +1,7 @@
 -- `page::collect` takes a run of records: all parts are refused where the table is bad, or else what is done for a good table. Assumes nothing.
 use mathlib.Core.Path.{sym, ap, _∙_}
 use borrow.Author.Needs.{needs}
-use Rattle.pairing.proofs.Good.{survey-good}
+use Rattle.pairing.proofs.Surveys.{survey-good}
 use Rattle.pairing.proofs.Refused.{table-fails}
 use Rattle.rules.specs.Taking.{Received}
 use Rattle.page.proofs.Collecting.{shut-collected}

@@ -4,9 +4,9 @@ use mathlib.Core.List.{[], _∷_}
 use mathlib.Core.Path.{_∙_}
 use borrow.Author.Needs.{needs}
 use Rattle.answers.proofs.InOrder.{passed-says, passed-leaves}
-use Rattle.pairing.proofs.Good.{survey-good}
+use Rattle.pairing.proofs.Surveys.{survey-good}
 use Rattle.pairing.proofs.Refused.{table-says, table-leaves}
-use Rattle.pairing.specs.Table.{tableChecks}
+use Rattle.tables.specs.Table.{tableChecks}
 use Rattle.rules.specs.Taking.{takeRest, takeInto}
 use Rattle.page.proofs.Parts.{sized-by}
 use Rattle.page.proofs.take.Statement.{statement}

@@ -4,9 +4,9 @@ use mathlib.Core.Path.{_∙_}
 use borrow.Author.Needs.{needs}
 use Rattle.answers.proofs.InOrder.{passed-says}
 use Rattle.enumeration.proofs.Product.{product}
-use Rattle.pairing.proofs.Good.{survey-good}
+use Rattle.pairing.proofs.Surveys.{survey-good}
 use Rattle.pairing.proofs.Refused.{table-says}
-use Rattle.pairing.specs.Table.{tableChecks}
+use Rattle.tables.specs.Table.{tableChecks}
 use Rattle.rules.specs.Tallying.{tallyRest, tallyOf}
 use Rattle.page.proofs.Parts.{sized-by}
 use Rattle.page.proofs.tally.Statement.{statement}

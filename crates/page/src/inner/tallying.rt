@@ -10,7 +10,7 @@ use rules::Judged;
 ghost use mathlib.Core.Path.{_≡_};
 ghost use Prim.Native.Nat.{_<_};
 ghost use Rattle.enumeration.proofs.Product.{product};
-ghost use Rattle.pairing.specs.Table.{placesIn};
+ghost use Rattle.tables.specs.Table.{placesIn};
 ghost use Rattle.rules.specs.Judging.{answerNumber};
 ghost use Rattle.rules.specs.Tallying.{tallySaysIn};
 ghost use Rattle.page.specs.Bounds.{Sized, Walked, AtRow};

@@ -4,8 +4,9 @@ use Prim.Native.Nat.{ℕ}
 use mathlib.Core.Path.{sym, ap, _∙_}
 use mathlib.Core.List.{List, [], _∷_}
 use Rattle.answers.proofs.InOrder.{passes-says, refusal-stands}
-use Rattle.pairing.specs.Table.{placesIn, rowOf, tableChecks, surveyMeaning}
-use Rattle.pairing.proofs.Good.{survey-good}
+use Rattle.tables.specs.Table.{placesIn, rowOf, tableChecks}
+use Rattle.pairing.specs.Meanings.{surveyMeaning}
+use Rattle.pairing.proofs.Surveys.{survey-good}
 use borrow.Author.Needs.{needs}
 use Rattle.pairing.proofs.check.Statement.{statement}
 use Rattle.pairing.proofs.check.Tie as tie

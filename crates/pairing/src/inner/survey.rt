@@ -4,7 +4,8 @@ use answers::Refusal;
 use rows::inner::fault::bad_row;
 use rows::inner::row;
 ghost use mathlib.Core.Path.{_≡_};
-ghost use Rattle.pairing.specs.Table.{wrongSize, surveyMeaning, surveySays};
+ghost use Rattle.tables.specs.Table.{wrongSize, surveySays};
+ghost use Rattle.pairing.specs.Meanings.{surveyMeaning};
 ghost use lib.ListN.{length};
 
 pub enum Surveyed {

@@ -4,8 +4,9 @@ use borrow.Author.Needs.{needs}
 use mathlib.Core.Path.{sym, ap, _∙_}
 use mathlib.Core.List.{[], _∷_}
 use Rattle.answers.proofs.InOrder.{refused-says, passed-says}
-use Rattle.shell.specs.Shell.{shellMeaning, shellChecks}
-use Rattle.shell.proofs.Usable.{says-usable, let-through}
+use Rattle.tables.specs.Usable.{shellChecks}
+use Rattle.shell.specs.Shell.{shellMeaning}
+use Rattle.tables.proofs.Usable.{says-usable, let-through}
 use Rattle.enumeration.specs.Product.{productIndex}
 use Rattle.points.specs.Calls.{indexRest}
 use Rattle.points.proofs.index.Statement.{statement}

@@ -5,8 +5,9 @@ use mathlib.Core.Path.{sym, ap, _∙_}
 use mathlib.Core.List.{[], _∷_}
 use lib.ListN.{length}
 use Rattle.answers.proofs.InOrder.{refused-says, refused-leaves, passed-says, passed-leaves}
-use Rattle.shell.specs.Shell.{shellMeaning, shellChecks}
-use Rattle.shell.proofs.Usable.{says-usable, let-through}
+use Rattle.tables.specs.Usable.{shellChecks}
+use Rattle.shell.specs.Shell.{shellMeaning}
+use Rattle.tables.proofs.Usable.{says-usable, let-through}
 use Rattle.enumeration.specs.Reading.{productPoint}
 use Rattle.points.specs.Calls.{pointRest}
 use Rattle.points.proofs.point.Statement.{statement}

@@ -1,13 +1,13 @@
 // The range of an index: the number s of nonzero coordinates of its point, and where the range starts.
 use counts::Length;
 use counts::Radius;
-use shell::inner::most;
-use shell::inner::range_size;
+use ranges::inner::most;
+use ranges::inner::range_size;
 ghost use mathlib.Core.Path.{_≡_};
 ghost use lib.Dec.{ltb};
 ghost use Rattle.counts.specs.Counts.{N, O};
 ghost use Rattle.enumeration.specs.Reading.{rangeOf};
-ghost use Rattle.shell.specs.Shell.{IsUsable};
+ghost use Rattle.tables.specs.Usable.{IsUsable};
 
 pub struct Range {
     pub s: usize,

@@ -4,10 +4,10 @@ use crate::inner::coordinate::magnitude;
 use crate::inner::parts::Parts;
 use counts::Length;
 use counts::Radius;
-use patterns::inner::pattern_count;
-use shapes::inner::shape_count;
-use shell::inner::range_start;
-use shell::inner::sign_count;
+use ranges::inner::pattern_count;
+use ranges::inner::range_start;
+use ranges::inner::shape_count;
+use ranges::inner::sign_count;
 ghost use mathlib.Core.Path.{_≡_};
 ghost use Prim.Native.Nat.{suc, _+_, _*_, _^_, _≤_, _<_};
 ghost use lib.ListN.{drop};
@@ -15,7 +15,7 @@ ghost use lib.ListN as listed;
 ghost use Rattle.counts.specs.Counts.{B};
 ghost use Rattle.enumeration.specs.Point.{OnShell, radiusOf};
 ghost use Rattle.enumeration.specs.Product.{shapeOffset, signBit, productIndex};
-ghost use Rattle.shell.specs.Shell.{IsUsable};
+ghost use Rattle.tables.specs.Usable.{IsUsable};
 ghost use Rattle.product.specs.Parts.{partsOf, grown, Room, Weighable, weighed};
 
 // What the magnitude i of a nonzero coordinate adds to the shape index, s and the radius being those from it on.

@@ -4,8 +4,8 @@ use mathlib.Core.Path.{_∙_}
 use mathlib.Core.List.{[], _∷_}
 use lib.ListN.{length}
 use Rattle.answers.proofs.InOrder.{passed-says, passed-leaves}
-use Rattle.pairing.specs.Table.{tableChecks}
-use Rattle.pairing.proofs.Good.{survey-good}
+use Rattle.tables.specs.Table.{tableChecks}
+use Rattle.pairing.proofs.Surveys.{survey-good}
 use Rattle.pairing.proofs.Refused.{table-says, table-leaves}
 use Rattle.quantizer.specs.Calls.{quantizeRest, recordFor}
 use borrow.Author.Needs.{needs}

@@ -3,7 +3,7 @@ use mathlib.Core.Path.{refl, sym, _∙_}
 use mathlib.Core.Bool.{not, or-false}
 use lib.Dec.{eqb}
 use borrow.Author.Tests.{eq-eqb, ne-eqb}
-use Rattle.rows.specs.Row.{lengthOf}
+use Rattle.tables.specs.Row.{lengthOf}
 use borrow.Author.Needs.{needs}
 use Rattle.quantizer.proofs.wrong_lengths.Statement.{statement}
 use Rattle.quantizer.proofs.wrong_lengths.Tie as tie

@@ -5,11 +5,11 @@ use crate::inner::row::places;
 use crate::inner::row::radii;
 use crate::inner::row::radius;
 use crate::inner::row::step;
-use shell::inner::largest_radius;
+use ranges::inner::largest_radius;
 ghost use mathlib.Core.Path.{_≡_};
 ghost use Prim.Native.Nat.{_≤_, _<_};
 ghost use Rattle.answers.specs.Checks.{anyOf};
-ghost use Rattle.rows.specs.Row.{lengthOf, outOfOrder, badRadius, badRadii, tailFaults, badRow, rowsOf};
+ghost use Rattle.tables.specs.Row.{lengthOf, outOfOrder, badRadius, badRadii, tailFaults, badRow, rowsOf};
 
 // A radius other than 0 in front, or not larger than the one before.
 fn out_of_order(table: &[u8], row: usize, number: usize) -> bool

@@ -3,7 +3,7 @@ use counts::Length;
 use counts::Radius;
 ghost use mathlib.Core.Path.{_≡_};
 ghost use Prim.Native.Nat.{_<_};
-ghost use Rattle.rows.specs.Row.{byteOf, lengthOf, radiiOf, radiusAt, pairOf, stepOf, placesOf, rowsOf};
+ghost use Rattle.tables.specs.Row.{byteOf, lengthOf, radiiOf, radiusAt, pairOf, stepOf, placesOf, rowsOf};
 
 // Byte `at` of a row.
 pub fn byte(table: &[u8], row: usize, at: usize) -> usize

@@ -2,7 +2,7 @@
 use borrow.Author.Needs.{needs}
 use mathlib.Core.List.{[], _∷_}
 use native.Mathlib.Omega.{arith}
-use Rattle.shell.proofs.Usable.{below-says, above-says, radius-says, past-says, usable-says}
+use Rattle.tables.proofs.Usable.{below-says, above-says, radius-says, past-says, usable-says}
 use Rattle.shell.proofs.check_shell.Statement.{statement}
 use Rattle.shell.proofs.check_shell.Tie as tie
 

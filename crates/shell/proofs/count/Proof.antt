@@ -5,8 +5,9 @@ use mathlib.Core.Path.{sym, ap, _∙_}
 use mathlib.Core.List.{[], _∷_}
 use Rattle.answers.proofs.InOrder.{refusal-stands}
 use Rattle.counts.specs.Counts.{N}
-use Rattle.shell.specs.Shell.{shellMeaning, shellChecks}
-use Rattle.shell.proofs.Usable.{says-usable, usable-answers}
+use Rattle.tables.specs.Usable.{shellChecks}
+use Rattle.shell.specs.Shell.{shellMeaning}
+use Rattle.tables.proofs.Usable.{says-usable, usable-answers}
 use Rattle.shell.proofs.count.Statement.{statement}
 use Rattle.shell.proofs.count.Tie as tie
 

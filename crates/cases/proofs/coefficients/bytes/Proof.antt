@@ -7,10 +7,10 @@ use Rattle.cases.proofs.coefficients.bytes.Statement.{statement}
 use Rattle.cases.proofs.coefficients.bytes.Tie as tie
 
 abbrev Inv-loop : tie.InvT-loop
-Inv-loop out at₀ t3 at = Unit {0}
+Inv-loop out at₀ at = Unit {0}
 
 abbrev μ-loop : tie.MeasureT-loop
-μ-loop out at₀ t3 at = length out - at
+μ-loop out at₀ at = length out - at
 
 pub bytes-spec : {M : Type 1} → statement M
 bytes-spec =
@@ -20,8 +20,7 @@ bytes-spec =
     μ-loop
     (λ c. search needs)
     (λ c. search needs)
-    (λ c. search needs)
-    (λ c. omega (arith, c .shared-slice-known2 .given (c .before .before .before .loop .at)))
+    (λ c. omega (arith, c .shared-slice-known2 .given (c .before .before .loop .at)))
     (λ c κs. search needs)
     (λ c. search needs)
     (λ c. search needs)

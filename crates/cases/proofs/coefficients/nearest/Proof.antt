@@ -5,7 +5,7 @@ use Rattle.cases.proofs.coefficients.nearest.Statement.{statement}
 use Rattle.cases.proofs.coefficients.nearest.Tie as tie
 
 nearest-whole-requires : tie.Need-nearest-whole-requires
-nearest-whole-requires c κs = sym (c .before .before .is-unusable .ensures) ∙ c .before .if1 .left
+nearest-whole-requires c κs = sym (c .before .is-unusable .ensures) ∙ c .if1 .left
 
 pub nearest-spec : {M : Type 1} → statement M
 nearest-spec =
@@ -15,7 +15,6 @@ nearest-spec =
     (λ c κs. search needs)
     (λ c κs. search needs)
     (λ c κs. search needs)
-    (λ c. search needs)
     nearest-whole-requires
     (λ c. search needs)
     (λ c κs. search needs)

@@ -5,7 +5,7 @@ use Rattle.cases.proofs.pages.scaled.Statement.{statement}
 use Rattle.cases.proofs.pages.scaled.Tie as tie
 
 nearest-whole-requires : tie.Need-nearest-whole-requires
-nearest-whole-requires c κs = sym (c .before .is-unusable .ensures) ∙ c .if1 .left
+nearest-whole-requires c κs = sym (c .before .before .is-unusable .ensures) ∙ c .before .if1 .left
 
 pub scaled-spec : {M : Type 1} → statement M
 scaled-spec =
@@ -13,14 +13,9 @@ scaled-spec =
     (tie.spec
     (λ c κs. search needs)
     (λ c κs. search needs)
-    (λ c. search needs)
     (λ c κs. search needs)
-    (λ c. search needs)
+    (λ c κs. search needs)
     nearest-whole-requires
-    (λ c. search needs)
-    (λ c κs. search needs)
-    (λ c. search needs)
-    (λ c κs. search needs)
     (λ c. search needs)
     (λ c κs. search needs)
     (λ c. search needs)

@@ -4,7 +4,7 @@ use native.Mathlib.Omega.{arith}
 use borrow.Author.Needs.{needs}
 use Rattle.enumeration.proofs.Product.{product}
 use Rattle.records.specs.Record.{rowIn, numberIn}
-use Rattle.rows.specs.Row.{radiusAt}
+use Rattle.tables.specs.Row.{radiusAt}
 use Rattle.cells.proofs.Judging.{record-9, record-10, record-judged}
 use Rattle.cells.proofs.inner.judging.judge_record.Statement.{statement}
 use Rattle.cells.proofs.inner.judging.judge_record.Tie as tie

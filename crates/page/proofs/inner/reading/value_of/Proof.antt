@@ -8,7 +8,7 @@ use lib.Seq.{length-take-le}
 use borrow.Author.Needs.{needs}
 use Rattle.enumeration.specs.Reading.{productPoint}
 use Rattle.floats.specs.Exact.{over256}
-use Rattle.rows.specs.Row.{lengthOf}
+use Rattle.tables.specs.Row.{lengthOf}
 use Rattle.page.proofs.Scaled.{small, coordinate-read}
 use Rattle.page.proofs.inner.reading.value_of.Statement.{statement}
 use Rattle.page.proofs.inner.reading.value_of.Tie as tie

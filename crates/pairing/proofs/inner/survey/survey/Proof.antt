@@ -9,9 +9,9 @@ use native.Mathlib.Numerals.{add-one}
 use native.Mathlib.Omega.{arith}
 use Rattle.answers.specs.Checks.{firstOf, eachFrom}
 use Rattle.answers.proofs.Each.{each-refused, each-passed, none-left}
-use Rattle.rows.specs.Row.{rowsOf}
-use Rattle.pairing.specs.Table.{placesIn, placesBefore, rowsBefore, rowOf, rowCheck, tableChecks}
-use Rattle.pairing.proofs.Rows.{size-passes, total-next, row-fails, total-fails, row-passes, rows-to, row-next}
+use Rattle.tables.specs.Row.{rowsOf}
+use Rattle.tables.specs.Table.{placesIn, placesBefore, rowsBefore, rowOf, rowCheck, tableChecks}
+use Rattle.tables.proofs.Rows.{size-passes, total-next, row-fails, total-fails, row-passes, rows-to, row-next}
 use Rattle.pairing.proofs.inner.survey.survey.Statement.{statement}
 use Rattle.pairing.proofs.inner.survey.survey.Tie as tie
 

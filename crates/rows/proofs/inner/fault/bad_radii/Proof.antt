@@ -4,8 +4,8 @@ use Prim.Native.Nat.{_-_, _≤_}
 use mathlib.Core.Path.{_≡_, refl, sym, _∙_}
 use mathlib.Core.Bool.{false}
 use native.Mathlib.Omega.{arith}
-use Rattle.rows.specs.Row.{badRadii}
-use Rattle.rows.proofs.Faults.{radius-bad, radius-good}
+use Rattle.tables.specs.Row.{badRadii}
+use Rattle.tables.proofs.Faults.{radius-bad, radius-good}
 use Rattle.rows.proofs.inner.fault.bad_radii.Statement.{statement}
 use Rattle.rows.proofs.inner.fault.bad_radii.Tie as tie
 

@@ -4,8 +4,8 @@ use mathlib.Core.Path.{_≡_, sym, ap, ap₂, _∙_}
 use mathlib.Core.Bool.{not}
 use lib.Dec.{eqb, ltb}
 use native.Mathlib.Omega.{arith}
-use Rattle.shell.specs.Largest.{largestRadius}
-use Rattle.rows.proofs.Faults.{above-largest, unused-says, disorder-says, used-says}
+use Rattle.tables.specs.Largest.{largestRadius}
+use Rattle.tables.proofs.Faults.{above-largest, unused-says, disorder-says, used-says}
 use borrow.Author.Needs.{needs}
 use Rattle.rows.proofs.inner.fault.bad_radius.Statement.{statement}
 use Rattle.rows.proofs.inner.fault.bad_radius.Tie as tie

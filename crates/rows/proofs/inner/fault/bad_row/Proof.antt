@@ -2,7 +2,7 @@
 use mathlib.Core.Path.{sym, _∙_}
 use native.Mathlib.Omega.{arith}
 use borrow.Author.Tests.{lt-ltb, le-ltb}
-use Rattle.rows.specs.Row.{lengthOf, radiiOf, badRow}
+use Rattle.tables.specs.Row.{lengthOf, radiiOf, badRow}
 use borrow.Author.Needs.{needs}
 use Rattle.rows.proofs.inner.fault.bad_row.Statement.{statement}
 use Rattle.rows.proofs.inner.fault.bad_row.Tie as tie

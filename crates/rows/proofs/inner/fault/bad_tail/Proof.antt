@@ -5,7 +5,7 @@ use mathlib.Core.Bool.{not, or-false}
 use native.Mathlib.Omega.{arith}
 use lib.Dec.{eqb}
 use borrow.Author.Tests.{lt-ltb, le-ltb, eq-eqb, ne-eqb}
-use Rattle.rows.specs.Row.{byteOf, stepOf, placesOf, notZero}
+use Rattle.tables.specs.Row.{byteOf, stepOf, placesOf, notZero}
 use borrow.Author.Needs.{needs}
 use Rattle.rows.proofs.inner.fault.bad_tail.Statement.{statement}
 use Rattle.rows.proofs.inner.fault.bad_tail.Tie as tie

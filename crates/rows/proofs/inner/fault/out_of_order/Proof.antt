@@ -1,7 +1,7 @@
 -- `rows::inner::fault::out_of_order`: the first radius is held to 0, and each other to the one before. Assumes nothing.
 use mathlib.Core.Path.{_∙_, ap₂}
 use lib.Dec.{leb}
-use Rattle.rows.proofs.Faults.{next-says}
+use Rattle.tables.proofs.Faults.{next-says}
 use borrow.Author.Needs.{needs}
 use Rattle.rows.proofs.inner.fault.out_of_order.Statement.{statement}
 use Rattle.rows.proofs.inner.fault.out_of_order.Tie as tie

@@ -2,7 +2,7 @@
 use Prim.Native.Nat.{_+_, _*_}
 use mathlib.Core.Path.{refl}
 use native.Mathlib.Omega.{arith}
-use Rattle.rows.specs.Row.{byteOf}
+use Rattle.tables.specs.Row.{byteOf}
 use borrow.Author.Needs.{needs}
 use Rattle.rows.proofs.inner.row.byte.Statement.{statement}
 use Rattle.rows.proofs.inner.row.byte.Tie as tie

@@ -1,0 +1,16 @@
+pub mod Refusing
+pub mod Calls
+pub mod AnyOrder
+pub mod Reading
+pub mod ThreeCases
+pub mod Never12
+pub mod Values
+pub mod Accepted
+pub mod Arrived
+pub mod Sent
+pub mod Shown
+pub mod Numbering
+pub mod Records
+pub mod Answers
+pub mod Witness
+pub mod Demands

@@ -1,0 +1,38 @@
+-- Demand 2, of records: what quantize writes where it accepts. Assumes nothing.
+use Prim.Native.Nat.{ℕ}
+use mathlib.Core.List.{List}
+use lib.Ieee.{Float, nan}
+use lib.ListN.{getD}
+use Rattle.floats.proofs.Nearest.{whole-nearest}
+use Rattle.tables.specs.Row.{GoodRow}
+use Rattle.tables.specs.Table.{rowOf}
+use Rattle.tables.proofs.Good.{good-place}
+use Rattle.tables.proofs.Places.{row-holds}
+use Rattle.coding.specs.Coded.{radiusFor}
+use Rattle.quantizer.specs.Calls.{recordFor}
+use Rattle.vectors.specs.Points.{totalOf}
+use Rattle.vectors.proofs.Points.{coordinate-sign, zero-stays}
+use Rattle.vectors.proofs.Radii.{least-miss, smaller-on-tie, some-total}
+use Rattle.quantizer.proofs.Written.{number-in, point-in, record-written}
+use Rattle.channel.specs.Demand2.{Quantizes, QuantizeWrites}
+use Rattle.channel.proofs.Accepted.{Accepted, accepts}
+
+module _ (t : List ℕ) (p : ℕ) (w : List Float) (out : List ℕ) (a : Accepted t p w out) where
+  row : GoodRow t (rowOf t p)
+  row = good-place t p (a .good) (a .inside) .1
+
+  written : Quantizes t p w (recordFor t p w)
+  written = record {
+    fields = record-written t p w (a .good) (a .inside) (a .long);
+    its-row = row-holds t p (a .inside);
+    nearest = λ i h. whole-nearest (getD w i nan);
+    in-row = number-in t p w (a .good) (a .inside) (a .long);
+    least = least-miss t (rowOf t p) row (totalOf w);
+    first = smaller-on-tie t (rowOf t p) row (totalOf w);
+    on-shell = point-in t p w (a .good) (a .inside) (a .long);
+    signs = coordinate-sign (radiusFor t (rowOf t p) w) w;
+    zeros = λ i h none. zero-stays (radiusFor t (rowOf t p) w) w i h (some-total t (rowOf t p) row (totalOf w)) none;
+  }
+
+pub quantize-writes : QuantizeWrites
+quantize-writes t p w out says = let a = accepts t p w out says in rw (a .leaves) (written t p w out a)

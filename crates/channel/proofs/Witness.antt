@@ -1,0 +1,82 @@
+-- The whole case, computed; and the theorems applied to it. Assumes nothing.
+use Prim.Native.Nat.{ℕ}
+use mathlib.Core.Path.{_≡_, refl, sym, ap, _∙_}
+use mathlib.Core.List.{List, [], _∷_, List·Memᴰ·head, List·Memᴰ·tail, List·Memᴰ·cases-cons, List·Memᴰ·not-nil}
+use mathlib.Core.Bool.{Bool, true, false, not, _&&_, _||_, false≢true}
+use mathlib.Core.Logic.{⊎-elim}
+use lib.Ieee.{toBits, round, lt}
+use lib.ListN.{replicate}
+use Rattle.counts.specs.Counts.{N, binomial, D, S, B, sumAfter, rangeSize, rangeStart}
+use Rattle.counts.specs.Width.{width, bitsFrom}
+use Rattle.enumeration.specs.Product.{patternIndex, shapeOffset, shapeIndex, signIndex, weigh, productIndex}
+use Rattle.enumeration.specs.Reading.{rangeFrom, rangeOf, patternOf, firstMagnitude, shapeLeft, shapeOf, signsOf, pointFrom, pointIn, productPoint}
+use Rattle.enumeration.proofs.Product.{product}
+use Rattle.floats.specs.Exact.{over256}
+use Rattle.floats.specs.Nearest.{nearestWhole}
+use Rattle.floats.specs.Units.{ofPattern, unitsOf, unusable, negative}
+use Rattle.tables.specs.Example.{wholeCase}
+use Rattle.tables.specs.Row.{byteOf, badRadius, badRadii, badRow}
+use Rattle.tables.specs.Table.{placesBefore, rowsBefore}
+use Rattle.shares.specs.Best.{firstBest}
+use Rattle.shares.specs.Shares.{largest, give, shared}
+use Rattle.records.specs.Record.{recordOf}
+use Rattle.vectors.specs.Example.{vector}
+use Rattle.vectors.specs.Radius.{chosenNumber}
+use Rattle.rules.specs.Cell.{cell, setCell, sameBytes}
+use Rattle.rules.specs.Example.{first, other}
+use Rattle.rules.specs.Taking.{claims, badCell, takeCell, arrive, after, grown, AllEqual}
+use Rattle.rules.specs.Judging.{judgeCodeword, judgeRecord, judge}
+use Rattle.rules.proofs.CellRule.{bytes-same}
+use Rattle.channel.specs.Demand3.{SoundWith}
+use Rattle.channel.specs.Witness.{sent, turned, arrivals, Witness}
+use Rattle.channel.proofs.Sent.{shown-as-sent, only-signs-change}
+
+-- a test of a whole list: what claims p has the bytes of r
+onlyClaims : List ℕ → ℕ → List ℕ → List (List ℕ) → Bool
+onlyClaims t p r [] = true
+onlyClaims t p r (x ∷ xs) = (not (claims t x p) || sameBytes x r) && onlyClaims t p r xs
+
+each-equal : (t : List ℕ) (p : ℕ) (r : List ℕ) (xs : List (List ℕ)) → onlyClaims t p r xs ≡ true → AllEqual t xs p r
+unfolding onlyClaims
+each-equal t p r [] e x m f = absurd (List·Memᴰ·not-nil m)
+each-equal t p r (y ∷ ys) e x m f = ⊎-elim (λ same. same ∙ here (claims t y p) (sameBytes y r) refl refl e (sym (ap (λ (u : List ℕ). claims t u p) same) ∙ f)) (λ n. each-equal t p r ys (rest (not (claims t y p) || sameBytes y r) e) x n f) (List·Memᴰ·cases-cons m)
+  where
+    rest : (b : Bool) → b && onlyClaims t p r ys ≡ true → onlyClaims t p r ys ≡ true
+    rest true h = h
+    rest false h = absurd (false≢true h)
+
+    here : (a b : Bool) → claims t y p ≡ a → sameBytes y r ≡ b → (not a || b) && onlyClaims t p r ys ≡ true → claims t y p ≡ true → y ≡ r
+    here a true ea eb h g = bytes-same y r eb
+    here true false ea eb h g = absurd (false≢true h)
+    here false false ea eb h g = absurd (false≢true (sym ea ∙ g))
+
+pub witness : Witness
+unfolding onlyClaims claims toBits round lt N binomial D S B sumAfter rangeSize rangeStart width bitsFrom patternIndex shapeOffset shapeIndex signIndex weigh productIndex rangeFrom rangeOf patternOf firstMagnitude shapeLeft shapeOf signsOf pointFrom pointIn productPoint over256 nearestWhole ofPattern unitsOf unusable negative byteOf badRadius badRadii badRow placesBefore rowsBefore firstBest largest give shared recordOf chosenNumber cell setCell badCell takeCell arrive after judgeCodeword judgeRecord judge
+witness = record {
+  is-sent = record { lent = replicate 8 9; accepted = refl; written = refl; point = refl };
+  is-read = record {
+    among = List·Memᴰ·tail (List·Memᴰ·tail (List·Memᴰ·head refl));
+    equal = each-equal wholeCase 0 first (arrivals first) refl;
+    says = refl;
+    leaves = refl;
+  };
+  its-value = refl;
+  low-bits = refl;
+  is-changed = refl;
+  is-turned = refl;
+  turned-read = record {
+    among = List·Memᴰ·tail (List·Memᴰ·tail (List·Memᴰ·head refl));
+    equal = each-equal wholeCase 0 other (arrivals other) refl;
+    says = refl;
+    leaves = refl;
+  };
+}
+
+pub sound-here : SoundWith product wholeCase (grown wholeCase (arrivals first)) 0 sent
+sound-here = shown-as-sent wholeCase 0 vector first sent (witness .is-sent) (arrivals first) (witness .is-read .among) (witness .is-read .equal)
+
+pub turned-here : SoundWith product wholeCase (grown wholeCase (arrivals other)) 0 turned
+turned-here =
+    rw (witness .is-turned) at
+    (only-signs-change wholeCase 0 vector first sent (witness .is-sent) 7 (witness .low-bits) (arrivals other) (witness .turned-read .among)
+    (witness .turned-read .equal))

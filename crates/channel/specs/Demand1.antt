@@ -1,0 +1,116 @@
+-- Demand 1, every call on every input: a refusal returns its number and changes nothing; a number is given exactly when its condition holds and no
+-- condition before it in the call's order does; any two results that a contract allows are equal. A call is named here by what its contract cites:
+-- what it says, and what it leaves in the buffer that is lent to it. Collect refuses nothing; its contract is two equations. Assumes nothing.
+use Prim.Native.Nat.{ℕ, suc}
+use mathlib.Core.Path.{_≡_}
+use mathlib.Core.List.{List, [], _∷_, map, List·Memᴰ}
+use mathlib.Core.Logic.{_↔_}
+use lib.Ieee.{Float}
+use lib.IntN.{ℤ}
+use lib.ListN.{length, getD}
+use Rattle.answers.specs.Checks.{Check, anyOf, failsOf, eachFrom, Refuses, Passes}
+use Rattle.tables.specs.Usable.{shellChecks}
+use Rattle.shell.specs.Shell.{countMeaning, countSays}
+use Rattle.enumeration.specs.Enumeration.{Enumeration}
+use Rattle.points.specs.Calls.{indexChecks, indexMeaning, indexSays, pointChecks, pointMeaning, pointSays, pointLeaves}
+use Rattle.tables.specs.Row.{lengthOf}
+use Rattle.tables.specs.Table.{placesIn, tableChecks, checkSays, noSuchPlace, rowOf}
+use Rattle.pairing.specs.Meanings.{checkMeaning}
+use Rattle.vectors.specs.Coefficients as vectors
+use Rattle.quantizer.specs.Calls.{quantizeChecks, quantizeLeaves, quantizeMeaning, quantizeSays, wrongLengths}
+use Rattle.rules.specs.Taking.{wrongPage, takeRest, takeChecks, takeSays, takeLeaves}
+use Rattle.rules.specs.Reading.{readRest, readChecks, readSays, readLeaves, coefficientRest, coefficientChecks, coefficientSays, coefficientCarries}
+use Rattle.rules.specs.Tallying.{cellCheck, tallyChecks, tallySays}
+use Rattle.page.specs.Meanings.{takeMeaning, readMeaning, coefficientMeaning, coefficientValues, tallyMeaning}
+use Rattle.page.specs.declared.Valued.{Valued}
+
+-- the number that is said first: a refusal's, or 0 with an answer
+abbrev pub numberSaid : List ℕ → ℕ
+numberSaid says = getD says 0 0
+
+-- several checks of one number are one condition: it holds if any of them fails
+abbrev pub condition : ℕ → List Check → Check
+condition n cs = record { number = n; values = []; fails = anyOf (failsOf cs) }
+
+-- the numbers of conditions, in order
+abbrev pub numbersOf : List Check → List ℕ
+numbersOf cs = map (λ (c : Check). c .number) cs
+
+-- the conditions of a call whose checks begin with those of its table, 7, and what quantize and the tally check after them: 11 is given for any
+-- coefficient, and 12 for any cell
+abbrev pub withTable : List ℕ → List Check → List Check
+withTable t conditions = condition 7 (tableChecks t) ∷ conditions
+
+abbrev pub quantizeConditions : List ℕ → ℕ → List Float → ℕ → List Check
+quantizeConditions t p w b =
+    record { number = 8; values = []; fails = noSuchPlace t p }
+    ∷ record { number = 4; values = []; fails = wrongLengths (lengthOf t (rowOf t p)) (length w) b }
+    ∷ condition 11 (vectors.coefficientChecks w)
+    ∷ []
+
+abbrev pub tallyConditions : List ℕ → List ℕ → List Check
+tallyConditions t pg =
+    record { number = 4; values = []; fails = wrongPage t pg } ∷ condition 12 (eachFrom (cellCheck pg) 0 (placesIn t)) ∷ []
+
+-- A call's refusals: `order` is what document 01 prints under "Order of checks", `conditions` says when each number is given, `checks` what is named
+-- with it, and `says` is what the contract says that the call says.
+pub record Refusing (order : List ℕ) (conditions checks : List Check) (says : List ℕ) : Type 0 where
+  pub in-order : numbersOf conditions ≡ order
+  -- number n is given exactly when n's condition holds and no condition before it does
+  pub exactly : (n : ℕ) → (numberSaid says ≡ suc n) ↔ Refuses conditions (suc n) []
+  -- and an answer exactly when none holds
+  pub answered : (numberSaid says ≡ 0) ↔ Passes conditions
+  -- a refusal names what the first check that fails names
+  pub naming : (n : ℕ) (vs : List ℕ) → (says ≡ suc n ∷ vs) ↔ Refuses checks (suc n) vs
+  -- the number is one of that call's list
+  pub listed : (n : ℕ) → numberSaid says ≡ suc n → List·Memᴰ (suc n) order
+
+-- a refusal changes nothing: what was `held` before is there afterwards
+abbrev pub Unchanged : {B : Type 0} → List ℕ → B → B → Type 0
+Unchanged says afterwards held = (n : ℕ) → numberSaid says ≡ suc n → afterwards ≡ held
+
+-- any two results that the contract allows are equal
+abbrev pub Determined : {A : Type 0} → (A → List ℕ) → List ℕ → Type 0
+Determined {A} meaningOf says = (r r′ : A) → meaningOf r ≡ says → meaningOf r′ ≡ says → r ≡ r′
+
+pub record Demand1 (e : Enumeration) : Type 0 where
+  -- Count: 1, 2, 3
+  pub count : (l k : ℕ) → Refusing (1 ∷ 2 ∷ 3 ∷ []) (shellChecks l k) (shellChecks l k) (countSays l k)
+  pub count-determined : (l k : ℕ) → Determined countMeaning (countSays l k)
+  -- Index: 1, 2, 3, 4, 5
+  pub index : (l k : ℕ) (x : List ℤ) → Refusing (1 ∷ 2 ∷ 3 ∷ 4 ∷ 5 ∷ []) (indexChecks l k x) (indexChecks l k x) (indexSays l k x)
+  pub index-determined : (l k : ℕ) (x : List ℤ) → Determined indexMeaning (indexSays l k x)
+  -- Point: 1, 2, 3, 4, 6
+  pub point : (l k n : ℕ) (out : List ℤ)
+      → Refusing (1 ∷ 2 ∷ 3 ∷ 4 ∷ 6 ∷ []) (pointChecks l k n (length out)) (pointChecks l k n (length out)) (pointSays l k n out)
+  pub point-unchanged : (l k n : ℕ) (out : List ℤ) → Unchanged (pointSays l k n out) (pointLeaves l k n out) out
+  pub point-determined : (l k n : ℕ) (out : List ℤ) → Determined pointMeaning (pointSays l k n out)
+  -- the check of a table: 7
+  pub check : (t : List ℕ) → Refusing (7 ∷ []) (withTable t []) (tableChecks t) (checkSays t)
+  pub check-determined : (t : List ℕ) → Determined checkMeaning (checkSays t)
+  -- Quantize: 7, 8, 4, 11
+  pub quantize : (t : List ℕ) (p : ℕ) (w : List Float) (out : List ℕ)
+      → Refusing (7 ∷ 8 ∷ 4 ∷ 11 ∷ []) (withTable t (quantizeConditions t p w (length out))) (quantizeChecks t p w (length out)) (quantizeSays t p w out)
+  pub quantize-unchanged : (t : List ℕ) (p : ℕ) (w : List Float) (out : List ℕ)
+      → Unchanged (quantizeSays t p w out) (quantizeLeaves t p w out) out
+  pub quantize-determined : (t : List ℕ) (p : ℕ) (w : List Float) (out : List ℕ)
+      → Determined quantizeMeaning (quantizeSays t p w out)
+  -- Take: 7, 4, 8, 12
+  pub take : (t pg x : List ℕ) → Refusing (7 ∷ 4 ∷ 8 ∷ 12 ∷ []) (withTable t (takeRest t pg x)) (takeChecks t pg x) (takeSays t pg x)
+  pub take-unchanged : (t pg x : List ℕ) → Unchanged (takeSays t pg x) (takeLeaves t pg x) pg
+  pub take-determined : (t pg x : List ℕ) → Determined takeMeaning (takeSays t pg x)
+  -- Read a place: 7, 8, 4, 12
+  pub read : (t pg : List ℕ) (p : ℕ) (out : List ℤ)
+      → Refusing (7 ∷ 8 ∷ 4 ∷ 12 ∷ []) (withTable t (readRest t pg p (length out))) (readChecks t pg p (length out)) (readSays e t pg p out)
+  pub read-unchanged : (t pg : List ℕ) (p : ℕ) (out : List ℤ) → Unchanged (readSays e t pg p out) (readLeaves e t pg p out) out
+  pub read-determined : (t pg : List ℕ) (p : ℕ) (out : List ℤ) → Determined readMeaning (readSays e t pg p out)
+  -- One coefficient: 7, 8, 4, 13, 12; a refusal carries no value
+  pub coefficient : (t pg : List ℕ) (p i : ℕ)
+      → Refusing (7 ∷ 8 ∷ 4 ∷ 13 ∷ 12 ∷ []) (withTable t (coefficientRest t pg p i)) (coefficientChecks t pg p i) (coefficientSays e t pg p i)
+  pub coefficient-none : (t pg : List ℕ) (p i : ℕ) → Unchanged (coefficientSays e t pg p i) (coefficientCarries e t pg p i) []
+  pub coefficient-determined : (t pg : List ℕ) (p i : ℕ) (r r′ : Valued)
+      → coefficientMeaning r ≡ coefficientSays e t pg p i → coefficientValues r ≡ coefficientCarries e t pg p i
+      → coefficientMeaning r′ ≡ coefficientSays e t pg p i → coefficientValues r′ ≡ coefficientCarries e t pg p i → r ≡ r′
+  -- Tally: 7, 4, 12
+  pub tally : (t pg : List ℕ) → Refusing (7 ∷ 4 ∷ 12 ∷ []) (withTable t (tallyConditions t pg)) (tallyChecks t pg) (tallySays e t pg)
+  pub tally-determined : (t pg : List ℕ) → Determined tallyMeaning (tallySays e t pg)

@@ -1,0 +1,48 @@
+-- Demand 3 c and d on document 01's whole case, so that nobody can call them empty: the vector (1.5, 0, -0.75) is sent for place 0, and what arrives
+-- is the record of place 1, a record cut short, the record sent, a record of no place, and the record sent once more. Every premise of the two
+-- theorems holds there, and what the readers answer is computed. Assumes nothing.
+use Prim.Native.Nat.{ℕ, _/_, _^_}
+use mathlib.Core.Path.{_≡_}
+use mathlib.Core.List.{List, [], _∷_, map, List·Memᴰ}
+use lib.Ieee.{binary32, toBits}
+use lib.IntN.{ℤ, pos, negsuc}
+use lib.ListN.{take}
+use Rattle.enumeration.specs.Point.{nonzerosIn}
+use Rattle.enumeration.specs.Product.{productIndex}
+use Rattle.enumeration.specs.Signs.{flipped}
+use Rattle.enumeration.proofs.Product.{product}
+use Rattle.tables.specs.Example.{wholeCase}
+use Rattle.vectors.specs.Example.{vector}
+use Rattle.rules.specs.Example.{of, first, second, other, zeros}
+use Rattle.rules.specs.Taking.{grown, AllEqual}
+use Rattle.rules.specs.Reading.{readSays, readLeaves, coefficientCarries}
+use Rattle.channel.specs.Demand3.{Sent, withCodeword}
+
+-- the point of the vector, and the point with the first coordinate negated
+abbrev pub sent : List ℤ
+sent = pos 1 ∷ pos 0 ∷ negsuc 0 ∷ []
+
+abbrev pub turned : List ℤ
+turned = negsuc 0 ∷ pos 0 ∷ negsuc 0 ∷ []
+
+-- what arrives, r being the record of place 0
+abbrev pub arrivals : List ℕ → List (List ℕ)
+arrivals r = second ∷ take 7 r ∷ r ∷ of 2 0 1 5 ∷ r ∷ []
+
+-- r is among them, all that claim place 0 are equal to r, and reading it gives the point q, sound
+pub record Read (r : List ℕ) (q : List ℤ) : Type 0 where
+  pub among : List·Memᴰ r (arrivals r)
+  pub equal : AllEqual wholeCase (arrivals r) 0 r
+  pub says : readSays product wholeCase (grown wholeCase (arrivals r)) 0 zeros ≡ 0 ∷ 0 ∷ 0 ∷ []
+  pub leaves : readLeaves product wholeCase (grown wholeCase (arrivals r)) 0 zeros ≡ q
+
+pub record Witness : Type 0 where
+  -- c: the record that document 01 prints is the one that quantize leaves, and (1, 0, -1) is read, the last coefficient as -1.0
+  pub is-sent : Sent wholeCase 0 vector first sent
+  pub is-read : Read first sent
+  pub its-value : map (toBits binary32) (coefficientCarries product wholeCase (grown wholeCase (arrivals first)) 0 2) ≡ 3212836864 ∷ []
+  -- d: with bit 1 of its codeword changed, which makes 7 of 5, (-1, 0, -1) is read
+  pub low-bits : productIndex sent / 2 ^ nonzerosIn sent ≡ 7 / 2 ^ nonzerosIn sent
+  pub is-changed : withCodeword first 7 ≡ other
+  pub is-turned : flipped (productIndex sent) 7 sent ≡ turned
+  pub turned-read : Read other turned

@@ -1,3 +1,0 @@
-pub mod Faults
-pub mod GoodRow
-pub mod Example

@@ -1,2 +1,0 @@
-pub mod Row
-pub mod Example

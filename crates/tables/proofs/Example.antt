@@ -1,0 +1,49 @@
+-- Every line of the example holds by computation. Assumes nothing.
+use mathlib.Core.Path.{refl}
+use Rattle.counts.specs.Counts.{N}
+use Rattle.tables.specs.Row.{byteOf, badRadius, badRadii, badRow}
+use Rattle.tables.specs.Table.{placesBefore, rowsBefore}
+use Rattle.tables.specs.Example.{Example}
+
+pub example : Example
+unfolding N byteOf badRadius badRadii badRow placesBefore rowsBefore
+example =
+    record {
+      length-0 = refl;
+      length-1 = refl;
+      radii-0 = refl;
+      radii-1 = refl;
+      radius-0-1 = refl;
+      radius-1-0 = refl;
+      radius-1-2 = refl;
+      radius-1-7 = refl;
+      step-0 = refl;
+      step-1 = refl;
+      places-1 = refl;
+      good-0 = refl;
+      good-1 = refl;
+      no-step = refl;
+      no-places = refl;
+      length-17 = refl;
+      nine-radii = refl;
+      first-radius-1 = refl;
+      equal-radii = refl;
+      past-largest = refl;
+      at-largest = refl;
+      unused-radius = refl;
+      byte-15 = refl;
+      length-first = refl;
+      whole-case = refl;
+      two-rows = refl;
+      row-alone = refl;
+      row-of-1 = refl;
+      row-of-2 = refl;
+      row-of-261 = refl;
+      none = refl;
+      half-more = refl;
+      one-along = refl;
+      at-the-limit = refl;
+      past-the-limit = refl;
+      rows-32 = refl;
+      rows-33 = refl;
+    }

@@ -1,0 +1,5 @@
+pub mod Usable
+pub mod Largest
+pub mod Row
+pub mod Table
+pub mod Example

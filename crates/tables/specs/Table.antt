@@ -1,0 +1,77 @@
+-- The pairing table as a whole (document 01, "Pairing table"): its rows and places, which tables are bad, what the call check says of one,
+-- and the row of a place. t is the table's bytes, any list of them. Assumes nothing.
+use Prim.Native.Nat.{ℕ, zero, suc, _+_, _*_, _%_, _≤_, _<_}
+use mathlib.Core.Path.{_≡_}
+use mathlib.Core.List.{List, [], _∷_}
+use mathlib.Core.Bool.{Bool, not}
+use lib.Dec.{eqb, leb, ltb}
+use lib.ListN.{length}
+use Rattle.answers.specs.Checks.{Check, anyOf, pick, firstOf, eachFrom, Passes}
+use Rattle.tables.specs.Row.{rowsOf, placesOf, badRow}
+
+-- 1 to 32 rows, each whole
+abbrev pub wrongSize : ℕ → Bool
+wrongSize n = anyOf (ltb n 1 ∷ ltb 512 n ∷ not (eqb (n % 16) 0) ∷ [])
+
+-- places are numbered from 0 through the rows in order: so many come before row r, the running total
+unfoldable pub placesBefore : List ℕ → ℕ → ℕ
+placesBefore t zero = 0
+placesBefore t (suc r) = placesBefore t r + placesOf t r
+
+-- the places of the whole table
+abbrev pub placesIn : List ℕ → ℕ
+placesIn t = placesBefore t (rowsOf t)
+
+-- at most 4,096 in all: the row at which the running total passes it is bad
+abbrev pub passesTotal : List ℕ → ℕ → Bool
+passesTotal t r = ltb 4096 (placesBefore t (suc r))
+
+-- 7: bad pairing table, with the first bad row; a table of wrong size names row 0, and its rows are not looked at
+abbrev pub rowCheck : List ℕ → ℕ → Check
+rowCheck t r = record { number = 7; values = r ∷ []; fails = anyOf (badRow t r ∷ passesTotal t r ∷ []) }
+
+abbrev pub tableChecks : List ℕ → List Check
+tableChecks t = record { number = 7; values = 0 ∷ []; fails = wrongSize (length t) } ∷ eachFrom (rowCheck t) 0 (rowsOf t)
+
+-- a good table
+abbrev pub Good : List ℕ → Type 0
+Good t = Passes (tableChecks t)
+
+-- which has 1 to 32 rows of 16 bytes
+pub record RightSize (t : List ℕ) : Type 0 where
+  pub rows-from : 1 ≤ rowsOf t
+  pub rows-to : rowsOf t ≤ 32
+  pub whole : length t ≡ 16 * rowsOf t
+
+-- what the call check is to say: the number of places, or a refusal
+abbrev pub checkSays : List ℕ → List ℕ
+checkSays t = firstOf (tableChecks t) (0 ∷ placesIn t ∷ [])
+
+-- a place is in a row
+pub record InRow (t : List ℕ) (p r : ℕ) : Type 0 where
+  pub from : placesBefore t r ≤ p
+  pub to : p < placesBefore t (suc r)
+
+-- 8: place not in the table
+abbrev pub noSuchPlace : List ℕ → ℕ → Bool
+noSuchPlace t p = leb (placesIn t) p
+
+-- how many of the first n rows end before the place
+unfoldable pub rowsBefore : List ℕ → ℕ → ℕ → ℕ
+rowsBefore t p zero = 0
+rowsBefore t p (suc n) = pick (leb (placesBefore t (suc n)) p) (suc (rowsBefore t p n)) (rowsBefore t p n)
+
+-- the row of a place: rows are numbered from 0, so it is the number of those before it; proofs/Places.antt shows that it holds the place, and
+-- that no other row does
+abbrev pub rowOf : List ℕ → ℕ → ℕ
+rowOf t p = rowsBefore t p (rowsOf t)
+
+-- what a survey is to say of a good table: its places, and the row of the place that was asked for
+abbrev pub surveySays : List ℕ → ℕ → List ℕ
+surveySays t p = firstOf (tableChecks t) (0 ∷ placesIn t ∷ rowOf t p ∷ [])
+
+-- what a call may take from such a survey
+pub record Surveys (t : List ℕ) (p places row : ℕ) : Type 0 where
+  pub good : Good t
+  pub is-places : places ≡ placesIn t
+  pub is-row : row ≡ rowOf t p

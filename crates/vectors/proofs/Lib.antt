@@ -1,0 +1,3 @@
+pub mod Radii
+pub mod Points
+pub mod OneToOne

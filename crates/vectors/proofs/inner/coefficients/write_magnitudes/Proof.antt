@@ -1,0 +1,80 @@
+-- `quantizer::inner::coefficients::write_magnitudes` fills the buffer with the magnitudes. Assumes nothing.
+use borrow.Author.Needs.{needs}
+use Prim.Native.Nat.{_-_, _≤_}
+use mathlib.Core.Path.{_≡_, sym, _∙_}
+use native.Mathlib.Omega.{arith}
+use mathlib.Core.List.{map}
+use lib.ListN.{length, length-set, length-map}
+use lib.Ieee.{nan}
+use Rattle.floats.specs.Nearest.{nearestWhole}
+use Rattle.shares.proofs.Filling.{front, fills-map, front-all}
+use Rattle.vectors.proofs.inner.coefficients.write_magnitudes.Statement.{statement}
+use Rattle.vectors.proofs.inner.coefficients.write_magnitudes.Tie as tie
+
+abbrev Inv-loop : tie.InvT-loop
+Inv-loop coefficients out₀ at₀ out at = (at ≤ length coefficients) × (length out ≡ length coefficients) × (out ≡ front out₀ (map nearestWhole coefficients) at)
+
+abbrev μ-loop : tie.MeasureT-loop
+μ-loop coefficients out₀ at₀ out at = length coefficients - at
+
+loop-holds : tie.Need-loop-holds Inv-loop μ-loop
+loop-holds c = search needs
+
+mul-nearest-whole : tie.Need-mul-nearest-whole Inv-loop μ-loop
+mul-nearest-whole c = search needs
+
+shared-slice-read-nearest-whole : tie.Need-shared-slice-read-nearest-whole Inv-loop μ-loop
+shared-slice-read-nearest-whole c = search needs
+
+nearest-whole-requires : tie.Need-nearest-whole-requires Inv-loop μ-loop
+nearest-whole-requires c κs = c .before .before .before .before .before .pre .0 (c .before .before .loop .at) (omega arith)
+
+mul-out : tie.Need-mul-out Inv-loop μ-loop
+mul-out c = search needs
+
+slice-write-out : tie.Need-slice-write-out Inv-loop μ-loop
+slice-write-out c = search needs
+
+add-at : tie.Need-add-at Inv-loop μ-loop
+add-at c = search needs
+
+loop-less : tie.Need-loop-less Inv-loop μ-loop
+loop-less c = search needs
+
+loop-again : tie.Need-loop-again Inv-loop μ-loop
+loop-again c =
+    let a = c .before .before .before .before .before .before in
+    let i = c .before .before .before .loop in
+    let w = c .nearest-whole .result in (
+      omega arith,
+      length-set (i .out) (i .at) w ∙ i .inv .1,
+      fills-map nearestWhole (a .args .coefficients .now) (a .args .out .now) (i .out) (i .at) nan w (omega (arith, a .pre .1)) (sym (a .pre .1)) (i .inv .2) (c .nearest-whole .ensures .0),
+    )
+
+same-length : tie.Need-same-length Inv-loop μ-loop
+same-length c = search needs
+
+returns : tie.Need-returns Inv-loop μ-loop
+returns c =
+    let a = c .before .before .before .before in
+    let xs = a .args .coefficients .now in
+    c .before .loop .inv .2
+    ∙ front-all (a .args .out .now) (map nearestWhole xs) (c .before .loop .at) (omega (arith, a .pre .1)) (length-map xs nearestWhole ∙ sym (a .pre .1))
+
+pub write-magnitudes-spec : {M : Type 1} → statement M
+write-magnitudes-spec =
+    tie.close
+    (tie.spec
+    Inv-loop
+    μ-loop
+    loop-holds
+    mul-nearest-whole
+    shared-slice-read-nearest-whole
+    nearest-whole-requires
+    mul-out
+    slice-write-out
+    add-at
+    loop-less
+    loop-again
+    same-length
+    returns)

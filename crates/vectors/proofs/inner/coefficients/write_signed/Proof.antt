@@ -1,0 +1,110 @@
+-- `quantizer::inner::coefficients::write_signed` fills the buffer with the signed magnitudes. Assumes nothing.
+use borrow.Author.Needs.{needs, sfits-of}
+use Prim.Native.Nat.{_-_, _≤_}
+use mathlib.Core.Path.{_≡_, sym, ap, _∙_}
+use native.Mathlib.Omega.{arith}
+use mathlib.Core.Bool.{Bool}
+use mir.Syntax.{w32}
+use mir.Val.{toZ, ofZ}
+use lib.Ieee.{nan}
+use lib.IntN.{pos}
+use lib.ListN.{length, getD, length-set}
+use Rattle.enumeration.specs.Point.{signed}
+use Rattle.floats.specs.Units.{negative}
+use Rattle.product.proofs.Coordinates.{kept}
+use Rattle.vectors.specs.Points.{signedBy}
+use Rattle.shares.proofs.Filling.{front, fills, front-all}
+use Rattle.vectors.proofs.Points.{signed-length, signed-at}
+use Rattle.vectors.proofs.inner.coefficients.write_signed.Statement.{statement}
+use Rattle.vectors.proofs.inner.coefficients.write_signed.Tie as tie
+
+abbrev Inv-loop : tie.InvT-loop
+Inv-loop coefficients magnitudes out₀ at₀ out at = (at ≤ length coefficients) × (length out ≡ length coefficients) × (out ≡ front out₀ (signedBy coefficients magnitudes) at)
+
+abbrev μ-loop : tie.MeasureT-loop
+μ-loop coefficients magnitudes out₀ at₀ out at = length coefficients - at
+
+loop-holds : tie.Need-loop-holds Inv-loop μ-loop
+loop-holds c = search needs
+
+mul-is-negative : tie.Need-mul-is-negative Inv-loop μ-loop
+mul-is-negative c = search needs
+
+shared-slice-read-is-negative : tie.Need-shared-slice-read-is-negative Inv-loop μ-loop
+shared-slice-read-is-negative c = search needs
+
+is-negative-requires : tie.Need-is-negative-requires Inv-loop μ-loop
+is-negative-requires c κs = search needs
+
+mul-signed : tie.Need-mul-signed Inv-loop μ-loop
+mul-signed c = search needs
+
+shared-slice-read-signed : tie.Need-shared-slice-read-signed Inv-loop μ-loop
+shared-slice-read-signed c = search needs
+
+cast-signed : tie.Need-cast-signed Inv-loop μ-loop
+cast-signed c = record { fits = omega (arith, c .before .before .before .before .before .before .before .pre .0 (c .before .before .before .before .loop .at) (omega arith)) }
+
+signed-requires : tie.Need-signed-requires Inv-loop μ-loop
+signed-requires c κs = c .before .before .before .before .before .before .before .pre .0 (c .before .before .before .before .loop .at) (omega arith)
+
+mul-t14 : tie.Need-mul-t14 Inv-loop μ-loop
+mul-t14 c = search needs
+
+slice-set-from-out : tie.Need-slice-set-from-out Inv-loop μ-loop
+slice-set-from-out c = search needs
+
+add-at : tie.Need-add-at Inv-loop μ-loop
+add-at c = search needs
+
+loop-less : tie.Need-loop-less Inv-loop μ-loop
+loop-less c = search needs
+
+loop-again : tie.Need-loop-again Inv-loop μ-loop
+loop-again c =
+    let a = c .before .before .before .before .before .before .before .before in
+    let xs = a .args .coefficients .now in
+    let ms = a .args .magnitudes .now in
+    let i = c .before .before .before .before .before .loop in
+    let z = c .signed .result in
+    let stored = toZ w32 (ofZ w32 z) in
+    let next : stored ≡ signed (negative (getD xs (i .at) nan)) (getD ms (i .at) 0) =
+    kept z (sfits-of (c .signed .ok)) ∙ c .signed .ensures ∙ ap (λ (b : Bool). signed b (getD ms (i .at) 0)) (c .before .before .is-negative .ensures) in (
+      omega arith,
+      length-set (i .out) (i .at) stored ∙ i .inv .1,
+      fills (a .args .out .now) (signedBy xs ms) (i .out) (i .at) (pos 0) stored (omega (arith, a .pre .2)) (signed-length xs ms (a .pre .1) ∙ sym (a .pre .2)) (i .inv .2)
+          (next ∙ sym (signed-at xs ms (i .at) (omega arith) (a .pre .1))),
+    )
+
+same-length : tie.Need-same-length Inv-loop μ-loop
+same-length c = search needs
+
+returns : tie.Need-returns Inv-loop μ-loop
+returns c =
+    let a = c .before .before .before .before in
+    let xs = a .args .coefficients .now in
+    let ms = a .args .magnitudes .now in
+    c .before .loop .inv .2
+    ∙ front-all (a .args .out .now) (signedBy xs ms) (c .before .loop .at) (omega (arith, a .pre .2)) (signed-length xs ms (a .pre .1) ∙ sym (a .pre .2))
+
+pub write-signed-spec : {M : Type 1} → statement M
+write-signed-spec =
+    tie.close
+    (tie.spec
+    Inv-loop
+    μ-loop
+    loop-holds
+    mul-is-negative
+    shared-slice-read-is-negative
+    is-negative-requires
+    mul-signed
+    shared-slice-read-signed
+    cast-signed
+    signed-requires
+    mul-t14
+    slice-set-from-out
+    add-at
+    loop-less
+    loop-again
+    same-length
+    returns)

@@ -1,0 +1,4 @@
+pub mod Coefficients
+pub mod Points
+pub mod Radius
+pub mod Example

@@ -1,0 +1,2 @@
+// A vector of coefficients (document 01, "Quantizing into a record"): their check, their whole numbers, their signs, and the choice of the radius.
+pub mod inner;
