@@ -14,7 +14,8 @@ kit_folder() {
     printf '%s/on/%s\n' "$(dirname "$(dirname "$guide")")" "$(uname -m)"
 }
 
-# The kit has no headers of a C library: a test declares what it uses, and -nostdinc keeps those of the machine out.
+# The kit has no headers of a C library: tests/headers has what the tests use of two of them, a test declares the functions that it calls, and
+# -nostdinc keeps the machine's headers out. The folder include/ of the repository is searched too, so the script runs at its top.
 kit_compile() {
     local kit folder=$1 file
     kit=$(kit_folder) || return
@@ -22,6 +23,7 @@ kit_compile() {
     mkdir -p "$folder" || return
     for file in "$@"; do
         "$kit/toolchain/bin/clang" --target=x86_64-unknown-linux-gnu -std=c11 -O2 -ffreestanding -nostdinc -fPIC \
+            -isystem tests/headers -I include \
             -Wall -Wextra -Wpedantic -Wconversion -Wsign-conversion -Wshadow -Wundef -Wvla \
             -Wstrict-prototypes -Wmissing-prototypes -Wmissing-variable-declarations -Werror \
             -c "$file" -o "$folder/$(basename "$file" .c).o" || return

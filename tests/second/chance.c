@@ -53,14 +53,6 @@ void point_by_chance(struct shell shell, int32_t *point)
     sign_by_chance(magnitudes, shell.length, point);
 }
 
-static uint64_t largest_radius(uint64_t length)
-{
-    uint64_t largest = MOST_RADIUS;
-    while (!is_usable((struct shell){length, largest}))
-        largest--;
-    return largest;
-}
-
 /* Radii of a row: 0, then others, each larger than the one before and usable, often the largest usable one as the last. */
 static void radii_by_chance(uint64_t length, uint64_t number, uint8_t *radii)
 {

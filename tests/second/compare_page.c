@@ -3,22 +3,6 @@
 
 #include "page_kinds.h"
 
-/* What arrives, among guards; what of `bytes` is beyond its length guards it too. */
-struct arrival_room {
-    uint8_t front[GUARDS];
-    uint8_t bytes[MOST_ARRIVAL];
-    uint8_t back[GUARDS];
-};
-
-/* A comparison under way. */
-struct taking {
-    const struct table *table;
-    struct page *page;
-    const struct arrival *arrival;
-    const uint8_t *before; /* the cell that take looks at, as it was; null for collect */
-    struct list expected;
-};
-
 /* Any item, past the end of every list or not. */
 uint64_t any_item(void)
 {
@@ -41,44 +25,6 @@ void wrong_item(struct list expected, uint64_t which, uint64_t got)
     exit(1);
 }
 
-static struct arrival_room arrival_among_guards(const struct arrival *arrival)
-{
-    struct arrival_room room;
-    set_guards(room.front, room.back);
-    for (uint64_t i = 0; i < MOST_ARRIVAL; i++)
-        room.bytes[i] = arrival->bytes[i];
-    return room;
-}
-
-static void print_taking(const char *call, const struct taking *taking)
-{
-    const struct arrival *arrival = taking->arrival;
-    print_table(call, taking->table);
-    printf(", page of %lu bytes", taking->page->size);
-    if (taking->before)
-        print_bytes(", its cell before", taking->before, CELL_SIZE);
-    printf(", lent %lu bytes", arrival->length);
-    print_bytes("", arrival->bytes, arrival->length <= MOST_ARRIVAL ? arrival->length : RECORD_SIZE);
-}
-
-/* One copy of the page, and the lent table and bytes, after a call. */
-static void compare_lent(const char *call, const struct taking *taking, int lent, const struct table_room *table,
-                         const struct arrival_room *arrival)
-{
-    const struct table_room table_before = table_among_guards(taking->table);
-    const struct arrival_room arrival_before = arrival_among_guards(taking->arrival);
-    const int is_table_same = same_table(table, &table_before);
-    const int is_arrival_same = memcmp(arrival, &arrival_before, sizeof *arrival) == 0;
-    if (is_table_same && is_arrival_same && is_page_as_it_must_be(taking->page, lent))
-        return;
-    print_taking(call, taking);
-    if (!is_table_same)
-        end("something is written at the table");
-    if (!is_arrival_same)
-        end("something is written at the bytes that arrive");
-    wrong_page(taking->page, lent);
-}
-
 /* A call of take with each copy of the page. What has no bytes is lent as a null pointer where `by_null` says so. */
 static void call_take(const struct taking *taking, int by_null)
 {
@@ -95,17 +41,15 @@ static void call_take(const struct taking *taking, int by_null)
             print_taking("probe_take", taking);
             wrong_item(taking->expected, which, got);
         }
-        compare_lent("probe_take", taking, lent, &table, &room);
+        compare_taking("probe_take", taking, lent, &table, &room);
         compared.calls_of_page++;
     }
 }
 
 struct list compare_take(const struct table *table, struct page *page, const struct arrival *arrival)
 {
-    uint8_t before[CELL_SIZE] = {0};
-    const uint64_t place = two_bytes(arrival->bytes + AT_PLACE);
-    for (uint64_t i = 0; i < CELL_SIZE && place < page->places; i++)
-        before[i] = cell_at(page, place)[i];
+    uint8_t before[CELL_SIZE];
+    copy_claimed(page, arrival, before);
     const struct taking taking = {table, page, arrival, before, take(table, page, arrival)};
     call_take(&taking, 0);
     if (table->size == 0 || page->size == 0 || arrival->length == 0)
@@ -130,7 +74,7 @@ static void call_collect(const struct taking *taking, uint64_t refusals, int by_
         printf(", refused takes");
         differ(refusals, got);
     }
-    compare_lent("probe_collect", taking, 0, &table, &room);
+    compare_taking("probe_collect", taking, 0, &table, &room);
     compared.calls_of_page++;
 }
 
@@ -152,7 +96,7 @@ static void take_parts(const struct taking *taking, uint64_t refusals)
         printf(", refused takes");
         differ(refusals, got);
     }
-    compare_lent("probe_take of each part", taking, 1, &table, &room);
+    compare_taking("probe_take of each part", taking, 1, &table, &room);
 }
 
 uint64_t compare_run(const struct table *table, struct page *page, const struct arrival *run)

@@ -138,36 +138,6 @@ void note_kinds(const struct vector *vector, const struct quantizing *made)
     note_row(vector, made);
 }
 
-static _Noreturn void too_few(uint64_t counted, uint64_t least)
-{
-    printf(": %lu were compared, at least %lu are wanted\n", counted, least);
-    exit(1);
-}
-
-void require(uint64_t counted, uint64_t least, const char *things, const char *what)
-{
-    if (counted < least) {
-        printf("the second program itself, %s %s", things, what);
-        too_few(counted, least);
-    }
-}
-
-void require_number(uint64_t counted, uint64_t least, const char *what, uint64_t number)
-{
-    if (counted < least) {
-        printf("the second program itself, %s %lu", what, number);
-        too_few(counted, least);
-    }
-}
-
-void require_shell(uint64_t counted, uint64_t least, const char *what, struct shell shell)
-{
-    if (counted < least) {
-        printf("the second program itself, %s of length %lu and radius %lu", what, shell.length, shell.radius);
-        too_few(counted, least);
-    }
-}
-
 static void require_each(const uint64_t *counts, uint64_t first, uint64_t last, const char *what)
 {
     for (uint64_t number = first; number <= last; number++)

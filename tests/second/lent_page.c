@@ -50,7 +50,7 @@ int is_page_as_it_must_be(const struct page *page, int lent)
     return memcmp(page->lent[lent], page->own, chance_below(64) ? used(page) : PAGE_ROOM) == 0;
 }
 
-/* The first place that is not as it must be; the call was printed before. */
+/* The first place that is not as it must be, or the first byte beside the page; the call was printed before. */
 void wrong_page(const struct page *page, int lent)
 {
     for (uint64_t place = 0; place < page->places; place++) {
@@ -63,5 +63,6 @@ void wrong_page(const struct page *page, int lent)
         printf("\n");
         exit(1);
     }
+    printf(", byte %ld", first_other_byte(page->own, page->lent[lent]));
     end("something is written beside the page");
 }

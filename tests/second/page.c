@@ -97,17 +97,22 @@ struct list take(const struct table *table, struct page *page, const struct arri
 }
 
 /* "It takes each 8 bytes in turn, and a shorter last part too"; how many of these takes are refused. */
-uint64_t collect(const struct table *table, struct page *page, const struct arrival *run)
+uint64_t collect_bytes(const struct table *table, struct page *page, const uint8_t *bytes, uint64_t size)
 {
     uint64_t refusals = 0;
-    for (uint64_t at = 0; at < run->length; at += RECORD_SIZE) {
-        const uint64_t left = run->length - at;
+    for (uint64_t at = 0; at < size; at += RECORD_SIZE) {
+        const uint64_t left = size - at;
         struct arrival part = {.length = left < RECORD_SIZE ? left : RECORD_SIZE};
         for (uint64_t i = 0; i < part.length; i++)
-            part.bytes[i] = run->bytes[at + i];
+            part.bytes[i] = bytes[at + i];
         refusals += take(table, page, &part).items[0] != 0;
     }
     return refusals;
+}
+
+uint64_t collect(const struct table *table, struct page *page, const struct arrival *run)
+{
+    return collect_bytes(table, page, run->bytes, run->length);
 }
 
 /* The first three checks of read and of coefficient, which begin alike: "7, 8, 4". The output of coefficient is none. */

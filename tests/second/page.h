@@ -37,6 +37,13 @@ struct arrival {
     uint8_t bytes[MOST_ARRIVAL];
 };
 
+/* What arrives, among guards; what of `bytes` is beyond its length guards it too. */
+struct arrival_room {
+    uint8_t front[GUARDS];
+    uint8_t bytes[MOST_ARRIVAL];
+    uint8_t back[GUARDS];
+};
+
 /* What read or coefficient is asked. */
 struct question {
     const struct table *table;
@@ -48,6 +55,27 @@ struct question {
 /* The list that a call answers; zeros follow it. */
 struct list {
     uint64_t items[ITEMS];
+};
+
+/* A comparison of take, or of collect, under way. */
+struct taking {
+    const struct table *table;
+    struct page *page;
+    const struct arrival *arrival;
+    const uint8_t *before; /* the cell that take looks at, as it was; null for collect */
+    struct list expected;
+};
+
+/* What is wrong with a call, as the bits of a set. The length is that of the record, or of the output. */
+enum { WRONG_TABLE = 1, WRONG_PLACE = 2, WRONG_PAGE = 4, WRONG_LENGTH = 8, WRONG_COORDINATE = 16, WRONG_CELL = 32, SETS = 64 };
+
+/* All that the calls are asked about one place. */
+struct case_of_page {
+    struct table table;
+    uint64_t place;
+    struct arrival arrival;
+    uint64_t out_length;
+    uint64_t coordinate;
 };
 
 /* How a cell is read. */
@@ -66,12 +94,20 @@ const uint8_t *cell_at(const struct page *page, uint64_t place);
 int is_page_as_it_must_be(const struct page *page, int lent);
 _Noreturn void wrong_page(const struct page *page, int lent);
 
+/* lent_take.c: what take, or collect, is lent, and what it must be afterwards */
+struct arrival_room arrival_among_guards(const struct arrival *arrival);
+void copy_claimed(const struct page *page, const struct arrival *arrival, uint8_t *cell);
+void print_taking(const char *call, const struct taking *taking);
+void compare_taking(const char *call, const struct taking *taking, int lent, const struct table_room *table,
+                    const struct arrival_room *arrival);
+
 /* page.c: what the calls must answer, and make of a page, by the rules of document 01 */
 uint64_t codeword_of(const uint8_t *record);
 uint64_t least_power_from(uint64_t n);
 int is_at_fault(const uint8_t *cell, uint64_t place);
 struct reading read_cell(const struct table *table, uint64_t place, const uint8_t *cell);
 struct list take(const struct table *table, struct page *page, const struct arrival *arrival);
+uint64_t collect_bytes(const struct table *table, struct page *page, const uint8_t *bytes, uint64_t size);
 uint64_t collect(const struct table *table, struct page *page, const struct arrival *run);
 struct list read_place(const struct question *question, int32_t *point);
 struct list coefficient(const struct question *question, uint32_t *bits);
@@ -89,8 +125,18 @@ void cell_by_chance(const struct table *table, uint64_t place, uint8_t *cell);
 void spoil_cell(uint64_t place, uint8_t *cell);
 void draw_cell(struct page *page, const struct table *table, uint64_t place, uint64_t one_bad_in);
 void page_by_chance(struct page *page, const struct table *table, uint64_t one_bad_in);
+struct arrival arrival_by_chance(const struct table *table, const struct page *page, uint64_t place);
 uint64_t place_past_end(uint64_t places);
 uint64_t wrong_page_size(const struct page *page);
+
+/* page_faults.c: calls with several faults at once, and with every state at one place */
+enum { SET_TABLES = 250 }; /* how often each set of faults is tried */
+typedef void visit_set(const struct case_of_page *wrong, int set);
+typedef void visit_case(const struct case_of_page *of);
+struct case_of_page right_case(struct page *page, struct table table);
+void for_each_set(struct page *page, visit_set *visit);
+void for_each_state(struct page *page, visit_case *visit);
+uint64_t refusal_of_take(int set);
 
 /* compare_page.c: one comparison of take or collect with the rules of page.c, whose answer is returned */
 uint64_t any_item(void);

@@ -151,6 +151,22 @@ void page_by_chance(struct page *page, const struct table *table, uint64_t one_b
         draw_cell(page, table, place, one_bad_in);
 }
 
+/* A record that claims a place: what its cell has, the same but for one byte, or any. */
+struct arrival arrival_by_chance(const struct table *table, const struct page *page, uint64_t place)
+{
+    struct arrival arrival = {.length = RECORD_SIZE};
+    const uint8_t *record = cell_at(page, place) + AT_RECORD;
+    const uint64_t choice = chance_below(8), byte = AT_ROW + chance_below(RECORD_SIZE - AT_ROW), bit = chance_below(8);
+    for (uint64_t i = 0; i < RECORD_SIZE; i++)
+        arrival.bytes[i] = record[i];
+    if (choice < 3)
+        arrival.bytes[byte] ^= (uint8_t)(chance_below(2) ? 1 << bit : 1 + chance_below(255));
+    if (choice > 4)
+        record_by_chance(table, place, arrival.bytes);
+    set_two_bytes(arrival.bytes + AT_PLACE, place);
+    return arrival;
+}
+
 /* A place number of two bytes that is not in the table, often one that is where a number is cut or its bytes are exchanged. */
 uint64_t place_past_end(uint64_t places)
 {

@@ -3,33 +3,10 @@
 
 #include "page.h"
 
-enum { SET_TABLES = 250, STATE_TABLES = 100, BAD_TABLES = 400, LENGTH_TABLES = 40 };
+enum { BAD_TABLES = 400, LENGTH_TABLES = 40 };
 enum { MOST_SIZE = 600, FEW_CELLS = 64 };
 
-/* What is wrong with a call, as the bits of a set. The length is that of the record, or of the output. */
-enum { WRONG_TABLE = 1, WRONG_PLACE = 2, WRONG_PAGE = 4, WRONG_LENGTH = 8, WRONG_COORDINATE = 16, WRONG_CELL = 32, SETS = 64 };
-
-/* All that the calls are asked about one place. */
-struct case_of_page {
-    struct table table;
-    uint64_t place;
-    struct arrival arrival;
-    uint64_t out_length;
-    uint64_t coordinate;
-};
-
 static struct page page;
-
-/* A good table, a page without faults, and everything right for one place. */
-static struct case_of_page right_case(struct table table)
-{
-    struct case_of_page right = {.table = table, .place = some_place(&table), .arrival = {.length = RECORD_SIZE}};
-    right.out_length = row_at(&table, right.place)[AT_LENGTH];
-    right.coordinate = chance_below(right.out_length);
-    record_by_chance(&table, right.place, right.arrival.bytes);
-    page_by_chance(&page, &table, 0);
-    return right;
-}
 
 static uint64_t take_of(const struct case_of_page *of)
 {
@@ -51,32 +28,6 @@ static uint64_t tally_of(const struct case_of_page *of)
     return compare_tally(&of->table, &page).items[0];
 }
 
-/* A right case with what the set says made wrong; the page too. */
-static struct case_of_page with_faults(const struct case_of_page *right, int set, const uint8_t *kept)
-{
-    struct case_of_page wrong = *right;
-    uint8_t cell[CELL_SIZE];
-    for (int i = 0; i < CELL_SIZE; i++)
-        cell[i] = kept[i];
-    if (set & WRONG_CELL)
-        spoil_cell(right->place, cell);
-    set_cell(&page, right->place, cell);
-    page.size = set & WRONG_PAGE ? wrong_page_size(&page) : CELL_SIZE * page.places;
-    if (set & WRONG_LENGTH) {
-        wrong.arrival.length = other_than(RECORD_SIZE, MOST_TAKEN);
-        wrong.out_length = other_than(right->out_length, MOST_OUTPUT);
-    }
-    if (set & WRONG_COORDINATE)
-        wrong.coordinate = chance_below(2) ? right->out_length : MOST_LENGTH + chance_below(UINT64_MAX - MOST_LENGTH);
-    if (set & WRONG_PLACE) {
-        wrong.place = wrong_place(page.places);
-        set_two_bytes(wrong.arrival.bytes + AT_PLACE, place_past_end(page.places));
-    }
-    if (set & WRONG_TABLE)
-        wrong.table.bytes[chance_below(wrong.table.size / ROW_SIZE) * ROW_SIZE + AT_15] = 1;
-    return wrong;
-}
-
 /* "Take: 7, 4, 8, 12. Read a place: 7, 8, 4, 12. One coefficient: 7, 8, 4, 13, 12. Tally: 7, 4, 12." Take is last: it may change the
    page. */
 static void compare_set(const struct case_of_page *wrong, int set)
@@ -85,43 +36,19 @@ static void compare_set(const struct case_of_page *wrong, int set)
     const uint64_t lengths = set & (WRONG_PAGE | WRONG_LENGTH) ? 4 : cell;
     const uint64_t page_alone = set & WRONG_PAGE ? 4 : cell_or_13, table = set & WRONG_TABLE ? 7 : 0;
     const uint64_t of_read = set & WRONG_PLACE ? 8 : lengths, of_coefficient = set & WRONG_PLACE ? 8 : page_alone;
-    const uint64_t of_take = set & (WRONG_PAGE | WRONG_LENGTH) ? 4 : set & WRONG_PLACE ? 8 : cell;
     own_figure("refusal of a reading with faults", read_of(wrong), table ? table : of_read);
     own_figure("refusal of a coefficient with faults", coefficient_of(wrong), table ? table : of_coefficient);
     own_figure("refusal of a tally with faults", tally_of(wrong), table ? table : set & WRONG_PAGE ? 4 : cell);
-    own_figure("refusal of a take with faults", take_of(wrong), table ? table : of_take);
+    own_figure("refusal of a take with faults", take_of(wrong), refusal_of_take(set));
 }
 
-static void compare_sets(void)
+/* Take is last here too. */
+static void compare_state(const struct case_of_page *right)
 {
-    for (int i = 0; i < SET_TABLES; i++) {
-        const struct case_of_page right = right_case(small_table_by_chance());
-        uint8_t kept[CELL_SIZE];
-        for (int j = 0; j < CELL_SIZE; j++)
-            kept[j] = cell_at(&page, right.place)[j];
-        for (int set = 0; set < SETS; set++) {
-            const struct case_of_page wrong = with_faults(&right, set, kept);
-            compare_set(&wrong, set);
-        }
-    }
-}
-
-/* Every state at one place of a page, the rest of the cell as it was. */
-static void compare_states(void)
-{
-    for (int i = 0; i < STATE_TABLES; i++) {
-        const struct case_of_page right = right_case(small_table_by_chance());
-        uint8_t cell[CELL_SIZE];
-        record_by_chance(&right.table, right.place, cell + AT_RECORD);
-        for (int state = 0; state < 256; state++) {
-            cell[AT_STATE] = (uint8_t)state;
-            set_cell(&page, right.place, cell);
-            read_of(&right);
-            coefficient_of(&right);
-            tally_of(&right);
-            take_of(&right);
-        }
-    }
+    read_of(right);
+    coefficient_of(right);
+    tally_of(right);
+    take_of(right);
 }
 
 static void compare_all_calls(const struct case_of_page *of)
@@ -140,7 +67,7 @@ static void compare_all_calls(const struct case_of_page *of)
 static void compare_bad_tables(void)
 {
     const struct table good = small_table_by_chance();
-    struct case_of_page of = right_case(good);
+    struct case_of_page of = right_case(&page, good);
     begin_page(&page, MOST_PLACES);
     for (int i = 0; i < BAD_TABLES * FAULTS; i++) {
         const int is_wrong = i % 2;
@@ -164,7 +91,7 @@ static void compare_bad_tables(void)
 static void compare_sizes(void)
 {
     const uint64_t cut[] = {65536 + 16, 65536 + 512, TWO_TO_32 + 16, TWO_TO_32 + 512};
-    struct case_of_page of = right_case(rows_by_chance(MOST_ROWS, 3));
+    struct case_of_page of = right_case(&page, rows_by_chance(MOST_ROWS, 3));
     of.table = rows_by_chance(MOST_LENT_ROWS, 3);
     for (uint64_t i = 0; i <= MOST_SIZE + ENTRIES(cut); i++) {
         of.table.size = i <= MOST_SIZE ? i : cut[i - MOST_SIZE - 1];
@@ -180,7 +107,7 @@ static void compare_lengths(void)
 {
     const uint64_t cut[] = {256, 65536, TWO_TO_32};
     for (int i = 0; i < LENGTH_TABLES; i++) {
-        const struct case_of_page right = right_case(small_table_by_chance());
+        const struct case_of_page right = right_case(&page, small_table_by_chance());
         struct case_of_page of = right;
         for (uint64_t length = 0; length <= MOST_OUTPUT + ENTRIES(cut); length++) {
             const uint64_t more = length > MOST_OUTPUT ? cut[length - MOST_OUTPUT - 1] : 0;
@@ -194,8 +121,8 @@ static void compare_lengths(void)
 
 void compare_page_checks(void)
 {
-    compare_sets();
-    compare_states();
+    for_each_set(&page, compare_set);
+    for_each_state(&page, compare_state);
     compare_bad_tables();
     compare_sizes();
     compare_lengths();

@@ -187,40 +187,44 @@ static void require_readings(struct shell shell)
     }
 }
 
-static void require_numbers(void)
+/* The numbers that are counted for one call alone. */
+static void require_numbers(enum page_call call)
 {
-    for (uint64_t i = AT_ROW; i < RECORD_SIZE; i++)
+    for (uint64_t i = AT_ROW; call == TAKE && i < RECORD_SIZE; i++)
         require_number(other_bytes[i], LEAST, "takes of a record that differs from what is held only in byte", i);
-    for (uint64_t i = 0; i < RECORD_LENGTHS; i++)
+    for (uint64_t i = 0; call == TAKE && i < RECORD_LENGTHS; i++)
         require_number(record_lengths[i], LEAST, "takes of a record of length", i);
-    for (uint64_t i = 0; i < RECORD_SIZE; i++)
+    for (uint64_t i = 0; call == COLLECT && i < RECORD_SIZE; i++)
         require_number(remainders[i], LEAST, "runs whose last part has a length of, modulo 8,", i);
-    for (int word = 0; word < READINGS; word++) {
+    for (int word = 0; call == TALLY && word < READINGS; word++) {
         require(tallied[word], LEAST, "tallies with places that are", words[word]);
         require(tallied_past_255[word], LEAST_OF_EACH, "tallies with more than 255 places that are", words[word]);
         require(tallied_alone[word], LEAST, "tallies of places that are all", words[word]);
     }
 }
 
-/* Ends the program unless each kind was compared often enough. */
+/* Ends the program unless each kind that is wanted for a call, or for stored records, was compared often enough. */
+void require_page_kinds_of(enum page_call call, struct required *so_far)
+{
+    for (int kind = 0; kind < PAGE_KINDS; kind++)
+        if (names[kind].wanted_for >> call & 1) {
+            require(kinds[call][kind], LEAST, calls[call], names[kind].what);
+            so_far->least = kinds[call][kind] < so_far->least ? kinds[call][kind] : so_far->least;
+            so_far->kinds++;
+        }
+    for (uint64_t fault = 0; call != STORED && fault < FAULTS; fault++)
+        require_number(faults[call][fault], LEAST, "calls refused with 7 for the fault with number", fault);
+    for (uint64_t state = 0; call != STORED && call != COLLECT && state < 256; state++)
+        require_number(states[call][state], LEAST_OF_EACH, "cells of state", state);
+    require_numbers(call);
+}
+
 void require_page_kinds(void)
 {
-    uint64_t wanted = 0, least = UINT64_MAX;
-    for (int call = 0; call < COUNTED_FOR; call++) {
-        for (int kind = 0; kind < PAGE_KINDS; kind++)
-            if (names[kind].wanted_for >> call & 1) {
-                require(kinds[call][kind], LEAST, calls[call], names[kind].what);
-                least = kinds[call][kind] < least ? kinds[call][kind] : least;
-                wanted++;
-            }
-        for (uint64_t fault = 0; call < PAGE_CALLS && fault < FAULTS; fault++)
-            require_number(faults[call][fault], LEAST, "calls refused with 7 for the fault with number", fault);
-    }
-    for (uint64_t state = 0; state < 256; state++)
-        for (enum page_call call = TAKE; call < PAGE_CALLS; call++)
-            if (call != COLLECT)
-                require_number(states[call][state], LEAST_OF_EACH, "cells of state", state);
-    require_numbers();
+    struct required so_far = {0, UINT64_MAX};
+    for (enum page_call call = TAKE; call < COUNTED_FOR; call++)
+        require_page_kinds_of(call, &so_far);
     for_each_usable_shell(require_readings);
-    printf("kinds of the page: %lu at least %lu times each, 407 shells at least %d times each\n", wanted, least, LEAST_OF_EACH);
+    printf("kinds of the page: %lu at least %lu times each, 407 shells at least %d times each\n", so_far.kinds, so_far.least,
+           LEAST_OF_EACH);
 }

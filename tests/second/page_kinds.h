@@ -120,6 +120,12 @@ struct reasons {
     int is_13;
 };
 
+/* How many kinds were required, and how often the rarest of them was compared. */
+struct required {
+    uint64_t kinds;
+    uint64_t least;
+};
+
 /* page_kinds.c */
 void note_page(enum page_call call, enum page_kind kind, int is_there);
 void note_fault(enum page_call call, enum fault fault);
@@ -129,6 +135,7 @@ void note_record_length(uint64_t length);
 void note_remainder(uint64_t length);
 void note_shell(enum page_call call, enum reading_word word, struct shell shell);
 void note_tallied(enum reading_word word, uint64_t counted, uint64_t places);
+void require_page_kinds_of(enum page_call call, struct required *so_far);
 void require_page_kinds(void);
 
 /* page_notes.c: what the cells and the refusals tell */

@@ -89,6 +89,7 @@ typedef void visit_shell(struct shell shell);
 void count_points(void);
 uint64_t points_of(struct shell shell);
 int is_usable(struct shell shell);
+uint64_t largest_radius(uint64_t length);
 uint64_t most_nonzero(struct shell shell);
 void for_each_shell(visit_shell *visit);
 void for_each_usable_shell(visit_shell *visit);
@@ -120,15 +121,18 @@ void expect_check(const struct table *table, uint32_t refusal, uint64_t value);
 void expect_check_without_table(void);
 void read_point(struct shell shell, uint64_t index, int32_t *point);
 _Noreturn void wrong_point(struct shell shell, uint64_t index, const int32_t *point, const char *what);
-uint64_t as_answer(uint32_t number);
 void note(uint64_t expected, uint64_t *kind);
 struct point_room garbage(void);
 struct point_room garbage_around(const int32_t *point, uint64_t length);
 int same_points(const struct point_room *one, const struct point_room *other);
+void print_point(const char *what, const int32_t *point, uint64_t length);
+
+/* lent.c: what a call is lent among guards, and the words for a difference */
 void set_guards(uint8_t *front, uint8_t *back);
 struct table_room table_among_guards(const struct table *table);
 int same_table(const struct table_room *one, const struct table_room *other);
-void print_point(const char *what, const int32_t *point, uint64_t length);
+int64_t first_other_byte(const void *one, const void *other);
+uint64_t as_answer(uint32_t number);
 void print_bytes(const char *what, const uint8_t *bytes, uint64_t size);
 void print_table(const char *call, const struct table *table);
 _Noreturn void differ(uint64_t expected, uint64_t got);
@@ -220,17 +224,19 @@ uint64_t some_place(const struct table *table);
 void place_by_chance(struct vector *vector);
 void coefficients_by_chance(struct vector *vector);
 
-/* kinds.c: how many vectors of each kind were compared; and an error of the program itself where too few of anything were */
+/* required.c: an error of the test itself where too few of anything were compared */
 void require(uint64_t counted, uint64_t least, const char *things, const char *what);
 void require_number(uint64_t counted, uint64_t least, const char *what, uint64_t number);
 void require_shell(uint64_t counted, uint64_t least, const char *what, struct shell shell);
+
+/* kinds.c: how many vectors of each kind were compared */
 void note_kinds(const struct vector *vector, const struct quantizing *made);
 void require_kinds(void);
 
 /* vectors.c: any vector, held to the program's own quantizer, whose refusal is returned */
 uint32_t compare_vector(const struct vector *vector);
 
-/* checks.c: a place that is not in a table, and another number than the right one */
+/* others.c: a place that is not in a table, and another number than the right one */
 uint64_t wrong_place(uint64_t places);
 uint64_t other_than(uint64_t right, uint64_t most);
 

@@ -1,4 +1,4 @@
-/* The shells and N, by the recurrence of document 01, "Points and counts"; and the faults of the second program itself. */
+/* The shells and N, by the recurrence of document 01, "Points and counts"; and the faults of a test itself. */
 
 #include "second.h"
 
@@ -26,6 +26,15 @@ int is_usable(struct shell shell)
     return points_of(shell) <= TWO_TO_32;
 }
 
+/* The largest radius with which a length is usable. */
+uint64_t largest_radius(uint64_t length)
+{
+    uint64_t largest = MOST_RADIUS;
+    while (!is_usable((struct shell){length, largest}))
+        largest--;
+    return largest;
+}
+
 /* m, the smaller of l and k: the most coordinates that can be nonzero. */
 uint64_t most_nonzero(struct shell shell)
 {
@@ -50,14 +59,14 @@ void for_each_usable_shell(visit_shell *visit)
 
 void own_error(const char *what, struct shell shell)
 {
-    printf("the second program itself, length %lu, radius %lu: %s\n", shell.length, shell.radius, what);
+    printf("the test itself, length %lu, radius %lu: %s\n", shell.length, shell.radius, what);
     exit(1);
 }
 
 void own_figure(const char *what, uint64_t figure, uint64_t known)
 {
     if (figure != known) {
-        printf("the second program itself, %s: expected %lu, got %lu\n", what, known, figure);
+        printf("the test itself, %s: expected %lu, got %lu\n", what, known, figure);
         exit(1);
     }
 }

@@ -136,7 +136,7 @@ static void compare_tables_by_chance(void)
     }
     for (int sort = 0; sort < SORTS; sort++)
         if (occurred[sort] == 0) {
-            printf("the second program itself, tables by chance: none %s\n", sorts[sort]);
+            printf("the test itself, tables by chance: none %s\n", sorts[sort]);
             exit(1);
         }
 }

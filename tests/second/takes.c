@@ -7,25 +7,9 @@ enum { TABLES = 2500, TAKES_OF_TABLE = 400 };
 
 static struct page page;
 
-/* A record that claims a place: what its cell has, the same but for one byte, or any. */
-static struct arrival arrival_by_chance(const struct table *table, uint64_t place)
-{
-    struct arrival arrival = {.length = RECORD_SIZE};
-    const uint8_t *record = cell_at(&page, place) + AT_RECORD;
-    const uint64_t choice = chance_below(8), byte = AT_ROW + chance_below(RECORD_SIZE - AT_ROW), bit = chance_below(8);
-    for (uint64_t i = 0; i < RECORD_SIZE; i++)
-        arrival.bytes[i] = record[i];
-    if (choice < 3)
-        arrival.bytes[byte] ^= (uint8_t)(chance_below(2) ? 1 << bit : 1 + chance_below(255));
-    if (choice > 4)
-        record_by_chance(table, place, arrival.bytes);
-    set_two_bytes(arrival.bytes + AT_PLACE, place);
-    return arrival;
-}
-
 static void compare_take_at(const struct table *table, uint64_t place)
 {
-    struct arrival arrival = arrival_by_chance(table, place);
+    struct arrival arrival = arrival_by_chance(table, &page, place);
     const uint64_t size = page.size;
     if (chance_below(16) == 0)
         set_two_bytes(arrival.bytes + AT_PLACE, place_past_end(page.places));

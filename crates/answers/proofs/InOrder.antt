@@ -81,6 +81,10 @@ abbrev pub Numbered : List Check → Type 0
 Numbered [] = Unit {0}
 Numbered (c ∷ cs) = (0 < c .number) × Numbered cs
 
+pub numbered-then : (cs ds : List Check) → Numbered cs → Numbered ds → Numbered (cs ++ ds)
+numbered-then [] ds p q = q
+numbered-then (c ∷ cs) ds p q = (p .0, numbered-then cs ds (p .1) q)
+
 pub says-passes : (a a′ : List ℕ) (cs : List Check) → Numbered cs → firstOf cs (0 ∷ a) ≡ 0 ∷ a′ → Passes cs
 says-passes a a′ [] p e = tt
 says-passes a a′ (c ∷ cs) p e = go (c .fails) refl e (says-passes a a′ cs (p .1))

@@ -1,3 +1,4 @@
 pub mod OneToOne
 pub mod InOrder
 pub mod Each
+pub mod OneNumber

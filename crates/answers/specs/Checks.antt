@@ -6,6 +6,7 @@ use mathlib.Core.Bool.{Bool, true, false, not, _||_}
 use mathlib.Core.Path.{_≡_}
 use mathlib.Core.Logic.{_⊎_}
 use lib.Dec.{eqb}
+use lib.ListN.{getD}
 
 -- One check: the refusal number, the values named with it, and whether it is given, as the table's "given exactly when".
 pub record Check : Type 0 where
@@ -26,6 +27,10 @@ pick false refused rest = rest
 abbrev pub firstOf : List Check → List ℕ → List ℕ
 firstOf [] answer = answer
 firstOf (c ∷ cs) answer = pick (c .fails) (c .number ∷ c .values) (firstOf cs answer)
+
+-- the number that is said first: a refusal's, or 0 with an answer
+abbrev pub numberSaid : List ℕ → ℕ
+numberSaid says = getD says 0 0
 
 -- what a lent buffer holds afterwards: what it held, if a check fails, or else what the call makes of it
 abbrev pub leaves : {A : Type 0} → List Check → A → A → A

@@ -7,14 +7,13 @@ use lib.Dec.{eqb}
 use lib.Ieee.{Float}
 use lib.ListN.{length}
 use borrow.Author.Tests.{leb-false, eqb-true, not-false}
-use Rattle.answers.specs.Checks.{failsOf, wrongLength, Passes}
+use Rattle.answers.specs.Checks.{numberSaid, failsOf, wrongLength, Passes}
 use Rattle.answers.proofs.InOrder.{none-of}
 use Rattle.enumeration.proofs.Product.{product}
 use Rattle.tables.specs.Row.{lengthOf}
 use Rattle.tables.specs.Table.{placesIn, tableChecks, Good, rowOf}
 use Rattle.vectors.specs.Coefficients.{coefficientChecks}
 use Rattle.quantizer.specs.Calls.{quantizeRest, recordFor, quantizeSays, quantizeLeaves}
-use Rattle.channel.specs.Demand1.{numberSaid}
 use Rattle.channel.proofs.Calls.{demand-1}
 use Rattle.channel.proofs.Refusing.{leaves-through}
 

@@ -5,7 +5,7 @@ use mathlib.Core.List.{List, _∷_}
 use native.Mathlib.Omega.{arith}
 use lib.IntN.{pos, natAbs}
 use lib.ListN.{getD, replicate}
-use Rattle.answers.specs.Checks.{failsOf, eachFrom}
+use Rattle.answers.specs.Checks.{numberSaid, failsOf, eachFrom}
 use Rattle.answers.proofs.InOrder.{none-of}
 use Rattle.enumeration.specs.Enumeration.{Enumeration}
 use Rattle.tables.specs.Row.{lengthOf}
@@ -19,7 +19,6 @@ use Rattle.rules.specs.declared.Judged.the-variants as judged
 use Rattle.rules.proofs.Shows.{judge-shows}
 use Rattle.rules.proofs.Counts.{tally-sum}
 use Rattle.page.proofs.Scaled.{coordinate-to}
-use Rattle.channel.specs.Demand1.{numberSaid}
 use Rattle.channel.specs.Demand2.{Answers, Tallies}
 use Rattle.channel.proofs.Refusing.{says-through}
 use Rattle.channel.proofs.Calls.{demand-1}

@@ -1,11 +1,13 @@
 -- Demand 1 of each call, by the one argument, for any enumeration. Assumes nothing.
-use Prim.Native.Nat.{ℕ}
-use mathlib.Core.Path.{_≡_, refl, sym, ap, _∙_}
-use mathlib.Core.List.{List, [], _∷_, _++_, append-nil}
+use Prim.Native.Nat.{ℕ, _+_}
+use mathlib.Core.Path.{_≡_, refl, sym, _∙_}
+use mathlib.Core.List.{List, [], _∷_, _++_}
 use mathlib.Core.Bool.{Bool, true, false}
+use lib.Dec.{ltb}
 use lib.Ieee.{Float}
 use lib.ListN.{length}
-use Rattle.answers.specs.Checks.{Check, pick, firstOf, eachFrom}
+use Rattle.answers.specs.Checks.{numberSaid, Check, anyOf, pick, firstOf, eachFrom}
+use Rattle.answers.proofs.OneNumber.{each-of, one-number, one-number-last}
 use Rattle.enumeration.specs.Enumeration.{Enumeration}
 use Rattle.counts.specs.Counts.{N}
 use Rattle.tables.specs.Usable.{shellChecks}
@@ -15,8 +17,9 @@ use Rattle.enumeration.specs.Product.{productIndex}
 use Rattle.enumeration.specs.Reading.{productPoint}
 use Rattle.points.specs.Calls.{indexChecks, indexMeaning, indexSays, pointChecks, pointMeaning, pointSays}
 use Rattle.points.proofs.OneToOne.{index-one-to-one, point-one-to-one}
-use Rattle.tables.specs.Row.{rowsOf, lengthOf}
-use Rattle.tables.specs.Table.{placesIn, tableChecks, rowCheck, checkSays, noSuchPlace, rowOf}
+use Rattle.tables.specs.Row.{lengthOf}
+use Rattle.tables.specs.Table.{placesIn, tableChecks, checkSays, noSuchPlace, rowOf}
+use Rattle.tables.proofs.Seven.{table-of-7}
 use Rattle.pairing.specs.Meanings.{checkMeaning}
 use Rattle.pairing.proofs.OneToOne.{check-one-to-one}
 use Rattle.vectors.specs.Coefficients as vectors
@@ -28,8 +31,10 @@ use Rattle.rules.specs.Reading.{pointAt, carried, valueAt, readRest, readChecks
 use Rattle.rules.specs.Tallying.{cellCheck, tallyRest, tallyChecks, tallyOf, tallySays}
 use Rattle.page.specs.Meanings.{takeMeaning, readMeaning, tallyMeaning}
 use Rattle.page.proofs.OneToOne.{take-one-to-one, read-one-to-one, coefficient-one-to-one, tally-one-to-one}
-use Rattle.channel.specs.Demand1.{numberSaid, condition, withTable, quantizeConditions, tallyConditions, Determined, Demand1}
-use Rattle.channel.proofs.Refusing.{OfNumber, each-of, one-condition, refusing, unchanged}
+use Rattle.report.specs.Calls.{startingWith, lineSpace, noRoom, linesIn, linesRest, linesChecks, linesText, linesAnswer, linesSays, lineSays, listedMeaning, linedMeaning}
+use Rattle.report.proofs.OneToOne.{listed-one-to-one, lined-one-to-one}
+use Rattle.channel.specs.Demand1.{condition, withTable, quantizeConditions, tallyConditions, linesConditions, Determined, Demand1}
+use Rattle.channel.proofs.Refusing.{refusing, unchanged}
 
 determined : {A : Type 0} (meaningOf : A → List ℕ) (says : List ℕ) → ((r r′ : A) → meaningOf r ≡ meaningOf r′ → r ≡ r′) → Determined meaningOf says
 determined meaningOf says same r r′ a b = same r r′ (a ∙ sym b)
@@ -43,18 +48,10 @@ behind answer c cs ds e = go (c .fails)
     go true = refl
     go false = e
 
--- checks of one number at the end of a call
-at-the-end : (answer : List ℕ) (n : ℕ) (cs : List Check) → OfNumber n cs → numberSaid (firstOf cs answer) ≡ numberSaid (firstOf (condition n cs ∷ []) answer)
-at-the-end answer n cs p = ap (λ (ds : List Check). numberSaid (firstOf ds answer)) (sym (append-nil cs)) ∙ one-condition answer n cs [] p
-
--- every check of a table has number 7
-table-of : (t : List ℕ) → OfNumber 7 (tableChecks t)
-table-of t = (refl, each-of (rowCheck t) 7 0 (rowsOf t) (λ j. refl))
-
 by-table : (answer t : List ℕ) (rest conditions : List Check) → numberSaid (firstOf rest answer) ≡ numberSaid (firstOf conditions answer)
     → numberSaid (firstOf (tableChecks t ++ rest) answer) ≡ numberSaid (firstOf (withTable t conditions) answer)
 by-table answer t rest conditions e =
-    one-condition answer 7 (tableChecks t) rest (table-of t) ∙ behind answer (condition 7 (tableChecks t)) rest conditions e
+    one-number answer 7 (tableChecks t) rest (table-of-7 t) ∙ behind answer (condition 7 (tableChecks t)) rest conditions e
 
 -- the last checks of quantize and of the tally are one for each coefficient, and one for each cell
 rest-quantized : (t : List ℕ) (p : ℕ) (w : List Float) (b : ℕ)
@@ -64,20 +61,32 @@ rest-quantized t p w b =
     let length-check : Check = record { number = 4; values = []; fails = wrongLengths (lengthOf t (rowOf t p)) (length w) b } in
     behind (0 ∷ []) (record { number = 8; values = []; fails = noSuchPlace t p }) (length-check ∷ vectors.coefficientChecks w) (length-check ∷ last)
     (behind (0 ∷ []) length-check (vectors.coefficientChecks w) last
-    (at-the-end (0 ∷ []) 11 (vectors.coefficientChecks w) (each-of (vectors.coefficientCheck w) 11 0 (length w) (λ j. refl))))
+    (one-number-last (0 ∷ []) 11 (vectors.coefficientChecks w) (each-of (vectors.coefficientCheck w) 11 0 (length w) (λ j. refl))))
 
 rest-tallied : (answer t pg : List ℕ) → numberSaid (firstOf (tallyRest t pg) answer) ≡ numberSaid (firstOf (tallyConditions t pg) answer)
 rest-tallied answer t pg =
     let cells = eachFrom (cellCheck pg) 0 (placesIn t) in
     behind answer (record { number = 4; values = []; fails = wrongPage t pg }) cells (condition 12 cells ∷ [])
-    (at-the-end answer 12 cells (each-of (cellCheck pg) 12 0 (placesIn t) (λ j. refl)))
+    (one-number-last answer 12 cells (each-of (cellCheck pg) 12 0 (placesIn t) (λ j. refl)))
+
+rest-listed : (answer t pg : List ℕ) (p b : ℕ) → numberSaid (firstOf (linesRest t pg p b) answer) ≡ numberSaid (firstOf (linesConditions t pg p b) answer)
+rest-listed answer t pg p b =
+    let cells = eachFrom (cellCheck pg) p (linesIn t p b) in
+    let lengths : Check = record { number = 4; values = []; fails = anyOf (wrongPage t pg ∷ ltb b lineSpace ∷ []) } in
+    behind answer (record { number = 8; values = []; fails = noSuchPlace t p }) (lengths ∷ cells) (lengths ∷ condition 12 cells ∷ [])
+    (behind answer lengths cells (condition 12 cells ∷ [])
+    (one-number-last answer 12 cells (each-of (cellCheck pg) 12 p (linesIn t p b) (λ j. refl))))
 
 -- what is told of a place, after 0
 answers : Enumeration → List ℕ → List ℕ → ℕ → List ℕ
 answers e t pg p = answerNumber (judgeAt e t pg p) ∷ reasonOf (judgeAt e t pg p) ∷ []
 
+-- what is told of a block of lines, after 0
+written : Enumeration → List ℕ → List ℕ → ℕ → ℕ → List ℕ
+written e t pg p b = (p + linesIn t p b) ∷ length (linesText e t pg p b) ∷ []
+
 pub demand-1 : (e : Enumeration) → Demand1 e
-unfolding answers
+unfolding answers written
 demand-1 e = record {
   count = λ l k. refusing (N l k ∷ []) (shellChecks l k) (shellChecks l k) refl refl refl;
   count-determined = λ l k. determined countMeaning (countSays l k) count-one-to-one;
@@ -88,7 +97,7 @@ demand-1 e = record {
   point-determined = λ l k n out. determined pointMeaning (pointSays l k n out) point-one-to-one;
   check = λ t.
       refusing (placesIn t ∷ []) (tableChecks t) (withTable t []) refl refl
-      (at-the-end (0 ∷ placesIn t ∷ []) 7 (tableChecks t) (table-of t));
+      (one-number-last (0 ∷ placesIn t ∷ []) 7 (tableChecks t) (table-of-7 t));
   check-determined = λ t. determined checkMeaning (checkSays t) check-one-to-one;
   quantize = λ t p w out.
       refusing [] (quantizeChecks t p w (length out)) (withTable t (quantizeConditions t p w (length out))) refl refl
@@ -114,4 +123,14 @@ demand-1 e = record {
       refusing (tallyOf e t pg) (tallyChecks t pg) (withTable t (tallyConditions t pg)) refl refl
       (by-table (0 ∷ tallyOf e t pg) t (tallyRest t pg) (tallyConditions t pg) (rest-tallied (0 ∷ tallyOf e t pg) t pg));
   tally-determined = λ t pg. determined tallyMeaning (tallySays e t pg) tally-one-to-one;
+  lines = λ t pg p held.
+      refusing (written e t pg p (length held)) (linesChecks t pg p (length held)) (withTable t (linesConditions t pg p (length held))) refl refl
+      (by-table (linesAnswer e t pg p (length held)) t (linesRest t pg p (length held)) (linesConditions t pg p (length held))
+      (rest-listed (linesAnswer e t pg p (length held)) t pg p (length held)));
+  lines-unchanged = λ t pg p held.
+      unchanged (written e t pg p (length held)) (linesChecks t pg p (length held)) (startingWith (linesText e t pg p (length held)) held) held;
+  lines-determined = λ t pg p held. determined listedMeaning (linesSays e t pg p held) listed-one-to-one;
+  line = λ text held. refusing (length text ∷ []) (noRoom (length held) ∷ []) (noRoom (length held) ∷ []) refl refl refl;
+  line-unchanged = λ text held. unchanged (length text ∷ []) (noRoom (length held) ∷ []) (startingWith text held) held;
+  line-determined = λ text held. determined linedMeaning (lineSays text held) lined-one-to-one;
 }

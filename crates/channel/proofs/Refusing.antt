@@ -1,38 +1,16 @@
 -- Demand 1 argued once for all calls: what a call says is the first check that fails, and what it leaves goes by the same checks. Assumes nothing.
-use Prim.Native.Nat.{ℕ, zero, suc, _<_}
+use Prim.Native.Nat.{ℕ, suc, _<_}
 use mathlib.Core.Path.{_≡_, refl, sym, ap, _∙_}
 use mathlib.Core.List.{List, [], _∷_, _++_, List·Memᴰ, List·Memᴰ·head, List·Memᴰ·tail}
-use mathlib.Core.Bool.{Bool, true, false, _||_, _&&_, false≢true}
+use mathlib.Core.Bool.{Bool, true, false, _&&_, false≢true}
 use mathlib.Core.Logic.{inl, inr, ⊎-elim}
 use native.Mathlib.Omega.{arith}
 use lib.Dec.{ltb}
 use lib.ListN.{length}
 use borrow.Author.Tests.{ltb-true}
-use Rattle.answers.specs.Checks.{Check, anyOf, failsOf, pick, firstOf, leaves, eachFrom, Refuses, Passes}
+use Rattle.answers.specs.Checks.{numberSaid, Check, pick, firstOf, leaves, Refuses, Passes}
 use Rattle.answers.proofs.InOrder.{refuses-says, says-refuses, passes-says, refuses-leaves, passes-leaves, passed-says, passed-leaves}
-use Rattle.channel.specs.Demand1.{numberSaid, condition, numbersOf, Refusing, Unchanged}
-
--- ---- checks of one number
--- every check has number n
-abbrev pub OfNumber : ℕ → List Check → Type 0
-OfNumber n [] = Unit {0}
-OfNumber n (c ∷ cs) = (c .number ≡ n) × OfNumber n cs
-
-pub each-of : (c : ℕ → Check) (n i m : ℕ) → ((j : ℕ) → c j .number ≡ n) → OfNumber n (eachFrom c i m)
-each-of c n i zero p = tt
-each-of c n i (suc m) p = (p i, each-of c n (suc i) m p)
-
--- as one condition they give the same number, whatever is checked after them
-pub one-condition : (answer : List ℕ) (n : ℕ) (cs ds : List Check) → OfNumber n cs
-    → numberSaid (firstOf (cs ++ ds) answer) ≡ numberSaid (pick (condition n cs .fails) (n ∷ []) (firstOf ds answer))
-one-condition answer n [] ds p = refl
-one-condition answer n (c ∷ cs) ds p = go (c .fails) (one-condition answer n cs ds (p .1))
-  where
-    go : (b : Bool) → numberSaid (firstOf (cs ++ ds) answer) ≡ numberSaid (pick (anyOf (failsOf cs)) (n ∷ []) (firstOf ds answer))
-        → numberSaid (pick b (c .number ∷ c .values) (firstOf (cs ++ ds) answer))
-        ≡ numberSaid (pick (b || anyOf (failsOf cs)) (n ∷ []) (firstOf ds answer))
-    go true rest = p .0
-    go false rest = rest
+use Rattle.channel.specs.Demand1.{numbersOf, Refusing, Unchanged}
 
 -- ---- conditions name nothing
 abbrev pub namedBy : List Check → List ℕ

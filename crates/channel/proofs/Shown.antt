@@ -6,7 +6,7 @@ use mathlib.Core.Logic.{inl, inr, ⊎-elim}
 use native.Mathlib.Omega.{arith}
 use borrow.Author.Tests.{leb-false}
 use lib.ListN.{length, getD}
-use Rattle.answers.specs.Checks.{Check, failsOf, firstOf, Passes}
+use Rattle.answers.specs.Checks.{numberSaid, Check, failsOf, firstOf, Passes}
 use Rattle.answers.proofs.InOrder.{none-of}
 use Rattle.enumeration.specs.Enumeration.{Enumeration}
 use Rattle.tables.specs.Row.{lengthOf}
@@ -15,7 +15,7 @@ use Rattle.rules.specs.Cell.{heldCell}
 use Rattle.rules.specs.Taking.{grown}
 use Rattle.rules.specs.Judging.{judge, judgeAt, answerNumber, shown}
 use Rattle.rules.specs.Reading.{told, readRest, readSays, coefficientRest, coefficientSays}
-use Rattle.channel.specs.Demand1.{numberSaid, withTable}
+use Rattle.channel.specs.Demand1.{withTable}
 use Rattle.channel.specs.Demand3.{WhatCame, ShowsPoint, OnlySent, ReadOnlySent, ValuedOnlySent}
 use Rattle.channel.proofs.Refusing.{says-through}
 use Rattle.channel.proofs.Calls.{demand-1}

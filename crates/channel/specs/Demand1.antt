@@ -5,10 +5,11 @@ use Prim.Native.Nat.{ℕ, suc}
 use mathlib.Core.Path.{_≡_}
 use mathlib.Core.List.{List, [], _∷_, map, List·Memᴰ}
 use mathlib.Core.Logic.{_↔_}
+use lib.Dec.{ltb}
 use lib.Ieee.{Float}
 use lib.IntN.{ℤ}
-use lib.ListN.{length, getD}
-use Rattle.answers.specs.Checks.{Check, anyOf, failsOf, eachFrom, Refuses, Passes}
+use lib.ListN.{length}
+use Rattle.answers.specs.Checks.{Check, numberSaid, anyOf, failsOf, eachFrom, Refuses, Passes}
 use Rattle.tables.specs.Usable.{shellChecks}
 use Rattle.shell.specs.Shell.{countMeaning, countSays}
 use Rattle.enumeration.specs.Enumeration.{Enumeration}
@@ -23,10 +24,7 @@ use Rattle.rules.specs.Reading.{readRest, readChecks, readSays, readLeaves, coe
 use Rattle.rules.specs.Tallying.{cellCheck, tallyChecks, tallySays}
 use Rattle.page.specs.Meanings.{takeMeaning, readMeaning, coefficientMeaning, coefficientValues, tallyMeaning}
 use Rattle.page.specs.declared.Valued.{Valued}
-
--- the number that is said first: a refusal's, or 0 with an answer
-abbrev pub numberSaid : List ℕ → ℕ
-numberSaid says = getD says 0 0
+use Rattle.report.specs.Calls.{lineSpace, noRoom, linesIn, linesChecks, linesSays, linesLeaves, lineSays, lineLeaves, listedMeaning, linedMeaning}
 
 -- several checks of one number are one condition: it holds if any of them fails
 abbrev pub condition : ℕ → List Check → Check
@@ -36,8 +34,8 @@ condition n cs = record { number = n; values = []; fails = anyOf (failsOf cs) }
 abbrev pub numbersOf : List Check → List ℕ
 numbersOf cs = map (λ (c : Check). c .number) cs
 
--- the conditions of a call whose checks begin with those of its table, 7, and what quantize and the tally check after them: 11 is given for any
--- coefficient, and 12 for any cell
+-- the conditions of a call whose checks begin with those of its table, 7, and what quantize, the tally and the lines check after them: 11 is given for
+-- any coefficient, and 12 for any cell
 abbrev pub withTable : List ℕ → List Check → List Check
 withTable t conditions = condition 7 (tableChecks t) ∷ conditions
 
@@ -51,6 +49,13 @@ quantizeConditions t p w b =
 abbrev pub tallyConditions : List ℕ → List ℕ → List Check
 tallyConditions t pg =
     record { number = 4; values = []; fails = wrongPage t pg } ∷ condition 12 (eachFrom (cellCheck pg) 0 (placesIn t)) ∷ []
+
+abbrev pub linesConditions : List ℕ → List ℕ → ℕ → ℕ → List Check
+linesConditions t pg p b =
+    record { number = 8; values = []; fails = noSuchPlace t p }
+    ∷ record { number = 4; values = []; fails = anyOf (wrongPage t pg ∷ ltb b lineSpace ∷ []) }
+    ∷ condition 12 (eachFrom (cellCheck pg) p (linesIn t p b))
+    ∷ []
 
 -- A call's refusals: `order` is what document 01 prints under "Order of checks", `conditions` says when each number is given, `checks` what is named
 -- with it, and `says` is what the contract says that the call says.
@@ -114,3 +119,11 @@ pub record Demand1 (e : Enumeration) : Type 0 where
   -- Tally: 7, 4, 12
   pub tally : (t pg : List ℕ) → Refusing (7 ∷ 4 ∷ 12 ∷ []) (withTable t (tallyConditions t pg)) (tallyChecks t pg) (tallySays e t pg)
   pub tally-determined : (t pg : List ℕ) → Determined tallyMeaning (tallySays e t pg)
+  -- The calls of the listing, which document 01 does not number: lines as reading a place, 7, 8, 4, 12; one line of a known text, 4
+  pub lines : (t pg : List ℕ) (p : ℕ) (held : List ℕ)
+      → Refusing (7 ∷ 8 ∷ 4 ∷ 12 ∷ []) (withTable t (linesConditions t pg p (length held))) (linesChecks t pg p (length held)) (linesSays e t pg p held)
+  pub lines-unchanged : (t pg : List ℕ) (p : ℕ) (held : List ℕ) → Unchanged (linesSays e t pg p held) (linesLeaves e t pg p held) held
+  pub lines-determined : (t pg : List ℕ) (p : ℕ) (held : List ℕ) → Determined listedMeaning (linesSays e t pg p held)
+  pub line : (text held : List ℕ) → Refusing (4 ∷ []) (noRoom (length held) ∷ []) (noRoom (length held) ∷ []) (lineSays text held)
+  pub line-unchanged : (text held : List ℕ) → Unchanged (lineSays text held) (lineLeaves text held) held
+  pub line-determined : (text held : List ℕ) → Determined linedMeaning (lineSays text held)

@@ -9,6 +9,7 @@ use lib.Dec.{eqb}
 use lib.Ieee.{Float, nan}
 use lib.IntN.{ℤ, pos}
 use lib.ListN.{length, getD}
+use Rattle.answers.specs.Checks.{numberSaid}
 use Rattle.counts.specs.Counts.{N, R, O, most, sumAfter}
 use Rattle.enumeration.specs.Enumeration.{Enumeration}
 use Rattle.enumeration.specs.Point.{OnShell, isNonzero, isNegative, nonzerosIn, sumOf}
@@ -29,7 +30,6 @@ use Rattle.vectors.specs.Radius.{missBy}
 use Rattle.rules.specs.Judging.{judgeAt, answerNumber, Shows, shown}
 use Rattle.rules.specs.Reading.{valueAt}
 use Rattle.rules.specs.Tallying.{countOf, tallySays}
-use Rattle.channel.specs.Demand1.{numberSaid}
 use Rattle.channel.specs.Demand3.{Bytes, scaled}
 
 -- ---- counts, indices and points

@@ -9,6 +9,7 @@ use mathlib.Core.Logic.{_⊎_}
 use lib.Ieee.{Float}
 use lib.IntN.{ℤ, pos, _*ℤ_}
 use lib.ListN.{length, getD, take, replicate}
+use Rattle.answers.specs.Checks.{numberSaid}
 use Rattle.enumeration.specs.Enumeration.{Enumeration}
 use Rattle.enumeration.specs.Point.{nonzerosIn}
 use Rattle.enumeration.specs.Product.{productIndex}
@@ -25,7 +26,6 @@ use Rattle.rules.specs.Taking.{claims, Received, after, grown, Nobody, AllEqual
 use Rattle.rules.specs.Judging.{judge, shown}
 use Rattle.rules.specs.Reading.{readSays, readLeaves, coefficientSays, coefficientCarries}
 use Rattle.rules.specs.Tallying.{tallySays}
-use Rattle.channel.specs.Demand1.{numberSaid}
 
 -- ---- what came for a place
 -- y is among xs and claims p, and all that claim p are equal to it

@@ -16,7 +16,7 @@ use Rattle.answers.specs.declared.Refusal.{Refusal}
 use Rattle.tables.specs.Table.{tableChecks}
 use Rattle.rules.proofs.Runs.{parts-next, parts-none, parts-count, shut-after}
 use Rattle.rules.specs.Taking.{takeRest, takeChecks, takeInto, takeSaysIn, takeLeavesIn, takeLeaves, refusals, Received, arrive, after, partsOf, collected}
-use Rattle.page.specs.Bounds.{Sized}
+use Rattle.places.specs.Bounds.{Sized}
 
 module _ {t : List ℕ} {places : ℕ} (sized : Sized t places) (pg x : List ℕ) where
   pub leaves-all : {left : List ℕ} → left ≡ takeLeavesIn t pg x → left ≡ takeLeaves t pg x

@@ -1,11 +1,6 @@
-pub mod Parts
 pub mod TakeSays
 pub mod Collecting
-pub mod Looking
-pub mod Placed
 pub mod ReadSays
 pub mod TallySays
-pub mod Zeros
-pub mod Walking
 pub mod Scaled
 pub mod OneToOne

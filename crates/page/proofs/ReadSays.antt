@@ -14,11 +14,11 @@ use Rattle.rules.specs.Cell.{cellLength}
 use Rattle.rules.specs.Judging.{shown}
 use Rattle.rules.specs.Reading.{told, carried, readSaysIn, readLeavesIn, coefficientSaysIn, coefficientCarriesIn}
 use Rattle.rules.specs.declared.Judged.{Judged}
-use Rattle.page.specs.Looking.{looked}
-use Rattle.page.specs.declared.inner.looking.Looked.the-variants as looks
-use Rattle.page.proofs.Looking.{looked-bad, looked-at}
-use Rattle.page.proofs.Parts.{sized-by, wrong-page, right-page}
-use Rattle.page.proofs.Placed.{no-place, some-place, judged-at}
+use Rattle.places.specs.Looking.{looked}
+use Rattle.places.specs.declared.inner.looking.Looked.the-variants as looks
+use Rattle.places.proofs.Looking.{looked-bad, looked-at}
+use Rattle.places.proofs.Parts.{sized-by, wrong-page, right-page}
+use Rattle.places.proofs.Placed.{no-place, some-place, judged-at}
 
 module _ (e : Enumeration) {t : List ℕ} {p places row : ℕ} (found : Surveys t p places row) (pg : List ℕ) where
   -- of the row

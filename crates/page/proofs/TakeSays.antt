@@ -13,8 +13,8 @@ use Rattle.records.specs.Record.{placeIn}
 use Rattle.rules.proofs.Cells.{set-back}
 use Rattle.rules.specs.Cell.{cellLength, pageLength, cell, setCell}
 use Rattle.rules.specs.Taking.{wrongLengths, badCell, arriveCell, takeSaysIn, takeLeavesIn}
-use Rattle.page.specs.Bounds.{Sized}
-use Rattle.page.proofs.Parts.{inside, cell-ends, cell-nine}
+use Rattle.places.specs.Bounds.{Sized}
+use Rattle.places.proofs.Parts.{inside, cell-ends, cell-nine}
 
 module _ {t : List ℕ} {places : ℕ} (sized : Sized t places) (pg x : List ℕ) where
   -- what is said and what is left

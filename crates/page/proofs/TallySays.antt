@@ -17,12 +17,12 @@ use Rattle.rules.specs.Cell.{cellLength, cell}
 use Rattle.rules.specs.Judging.{judge, judgeAt, answerNumber}
 use Rattle.rules.specs.Tallying.{cellCheck, countOf, countsOf, answersIn, tallyOf, tallySaysIn}
 use Rattle.rules.specs.declared.Judged.{Judged}
-use Rattle.page.specs.Bounds.{Sized, Walked, AtRow}
-use Rattle.page.specs.Looking.{looked}
-use Rattle.page.specs.declared.inner.looking.Looked.the-variants as looks
-use Rattle.page.proofs.Looking.{looked-bad, looked-at}
-use Rattle.page.proofs.Parts.{inside, place-to, wrong-page, right-page}
-use Rattle.page.proofs.Walking.{its-row, walks-on, walks-from}
+use Rattle.places.specs.Bounds.{Sized, Walked, AtRow}
+use Rattle.places.specs.Looking.{looked}
+use Rattle.places.specs.declared.inner.looking.Looked.the-variants as looks
+use Rattle.places.proofs.Looking.{looked-bad, looked-at}
+use Rattle.places.proofs.Parts.{inside, place-to, wrong-page, right-page}
+use Rattle.places.proofs.Walking.{its-row, walks-on, walks-from}
 
 -- n places are counted, on the way through the rows
 pub record Tallying (e : Enumeration) (t pg : List ℕ) (row end n : ℕ) (counts : List ℕ) : Type 0 where

@@ -1,3 +1,1 @@
 pub mod Meanings
-pub mod Bounds
-pub mod Looking

@@ -2,17 +2,12 @@
 use Prim.Native.Nat.{ℕ}
 use mathlib.Core.Path.{_≡_, sym, ap, _∙_}
 use mathlib.Core.List.{List, [], _∷_}
-use lib.Dec.{lit<}
-use Rattle.answers.proofs.InOrder.{Numbered, says-passes, passes-says}
-use Rattle.answers.proofs.Each.{each-numbered}
-use Rattle.tables.specs.Row.{rowsOf}
-use Rattle.tables.specs.Table.{placesIn, rowCheck, tableChecks, rowOf, surveySays, Surveys}
+use Rattle.answers.proofs.InOrder.{says-passes, passes-says}
+use Rattle.tables.proofs.Seven.{table-numbered}
+use Rattle.tables.specs.Table.{placesIn, tableChecks, rowOf, surveySays, Surveys}
 use Rattle.pairing.specs.Meanings.{surveyMeaning}
 use Rattle.pairing.specs.declared.inner.survey.Surveyed.{Surveyed}
 use Rattle.pairing.specs.declared.inner.survey.Surveyed.the-variants as surveyed
-
-table-numbered : (t : List ℕ) → Numbered (tableChecks t)
-table-numbered t = (lit< tt, each-numbered (rowCheck t) 0 (rowsOf t) (λ r. lit< tt))
 
 pub survey-good : (t : List ℕ) (p : ℕ) {answer : Surveyed} {places row : ℕ} → answer ≡ surveyed.Good places row → surveyMeaning answer ≡ surveySays t p
     → Surveys t p places row

@@ -10,10 +10,7 @@ coded [] = 0
 coded (zero ∷ vs) = getD vs 0 0
 coded (suc n ∷ vs) = 2 ^ 40 + suc n
 
-abbrev pub numbered : List ℕ → ℕ
-numbered said = getD said 0 0
-
--- the value that stands behind the number
+-- the value that stands behind the number that is said first
 abbrev pub valued : List ℕ → ℕ
 valued said = getD said 1 0
 

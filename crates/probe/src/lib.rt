@@ -19,12 +19,13 @@ use shell::Counted;
 use shell::count;
 ghost use mathlib.Core.Path.{_≡_};
 ghost use Rattle.shell.specs.Shell.{countSays};
+ghost use Rattle.answers.specs.Checks.{numberSaid};
 ghost use Rattle.answers.specs.Refusals.{meaning};
 ghost use Rattle.tables.specs.Table.{checkSays};
 ghost use Rattle.pairing.specs.Meanings.{checkMeaning};
 ghost use Rattle.points.specs.Calls.{indexSays, pointSays, pointLeaves};
 ghost use Rattle.quantizer.specs.Calls.{quantizeMeaning, quantizeSays, quantizeLeaves};
-ghost use Rattle.probe.specs.Coded.{coded, numbered, valued};
+ghost use Rattle.probe.specs.Coded.{coded, valued};
 
 // The code of a refusal.
 fn refused(refusal: Refusal) -> u64
@@ -58,7 +59,7 @@ pub extern "C" fn probe_index(length: usize, radius: usize, x: &[i32]) -> u64
 // The call point, which answers with no value: 0, or the refusal's number.
 #[no_mangle]
 pub extern "C" fn probe_point(length: usize, radius: usize, n: u64, out: &mut [i32]) -> u32
-    ensures { λ r. ⌜ (r ≡ numbered (pointSays length radius n (now (out .entry)))) × (now (out .exit) ≡ pointLeaves length radius n (now (out .entry))) ⌝ }
+    ensures { λ r. ⌜ (r ≡ numberSaid (pointSays length radius n (now (out .entry)))) × (now (out .exit) ≡ pointLeaves length radius n (now (out .entry))) ⌝ }
 {
     match point(Length(length), Radius(radius), n, out) {
         Pointed::Written => 0,
@@ -68,7 +69,7 @@ pub extern "C" fn probe_point(length: usize, radius: usize, n: u64, out: &mut [i
 
 // The number of what check answers: 0, or the refusal's.
 fn check_number(answer: Checked) -> u32
-    ensures { λ r. ⌜ r ≡ numbered (checkMeaning answer) ⌝ }
+    ensures { λ r. ⌜ r ≡ numberSaid (checkMeaning answer) ⌝ }
 {
     match answer {
         Checked::Places(_) => 0,
@@ -89,7 +90,7 @@ fn check_value(answer: Checked) -> usize
 // The call check, by its number.
 #[no_mangle]
 pub extern "C" fn probe_check(table: &[u8]) -> u32
-    ensures { λ r. ⌜ r ≡ numbered (checkSays (now (table .entry))) ⌝ }
+    ensures { λ r. ⌜ r ≡ numberSaid (checkSays (now (table .entry))) ⌝ }
 {
     check_number(check(table))
 }
@@ -104,7 +105,7 @@ pub extern "C" fn probe_check_value(table: &[u8]) -> usize
 
 // The number of what quantize answers: 0, or the refusal's.
 fn quantize_number(answer: Quantized) -> u32
-    ensures { λ r. ⌜ r ≡ numbered (quantizeMeaning answer) ⌝ }
+    ensures { λ r. ⌜ r ≡ numberSaid (quantizeMeaning answer) ⌝ }
 {
     match answer {
         Quantized::Written => 0,
@@ -130,7 +131,7 @@ pub extern "C" fn probe_quantize(
     coefficients: &[f32],
     out: &mut [u8],
 ) -> u32
-    ensures { λ r. ⌜ (r ≡ numbered (quantizeSays (now (table .entry)) place (now (coefficients .entry)) (now (out .entry)))) × (now (out .exit) ≡ quantizeLeaves (now (table .entry)) place (now (coefficients .entry)) (now (out .entry))) ⌝ }
+    ensures { λ r. ⌜ (r ≡ numberSaid (quantizeSays (now (table .entry)) place (now (coefficients .entry)) (now (out .entry)))) × (now (out .exit) ≡ quantizeLeaves (now (table .entry)) place (now (coefficients .entry)) (now (out .entry))) ⌝ }
 {
     quantize_number(quantize(table, place, coefficients, out))
 }

@@ -7,5 +7,6 @@ pub mod Counts
 pub mod EitherOrder
 pub mod Grown
 pub mod Runs
+pub mod Blocks
 pub mod Shows
 pub mod Cells

@@ -6,3 +6,4 @@ pub mod GoodRow
 pub mod Rows
 pub mod Places
 pub mod Good
+pub mod Seven

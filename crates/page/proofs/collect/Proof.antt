@@ -5,7 +5,7 @@ use Rattle.pairing.proofs.Surveys.{survey-good}
 use Rattle.pairing.proofs.Refused.{table-fails}
 use Rattle.rules.specs.Taking.{Received}
 use Rattle.page.proofs.Collecting.{shut-collected}
-use Rattle.page.proofs.Parts.{sized-by}
+use Rattle.places.proofs.Parts.{sized-by}
 use Rattle.page.proofs.collect.Statement.{statement}
 use Rattle.page.proofs.collect.Tie as tie
 

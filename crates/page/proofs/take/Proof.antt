@@ -8,7 +8,7 @@ use Rattle.pairing.proofs.Surveys.{survey-good}
 use Rattle.pairing.proofs.Refused.{table-says, table-leaves}
 use Rattle.tables.specs.Table.{tableChecks}
 use Rattle.rules.specs.Taking.{takeRest, takeInto}
-use Rattle.page.proofs.Parts.{sized-by}
+use Rattle.places.proofs.Parts.{sized-by}
 use Rattle.page.proofs.take.Statement.{statement}
 use Rattle.page.proofs.take.Tie as tie
 

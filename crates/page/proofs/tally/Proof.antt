@@ -8,7 +8,7 @@ use Rattle.pairing.proofs.Surveys.{survey-good}
 use Rattle.pairing.proofs.Refused.{table-says}
 use Rattle.tables.specs.Table.{tableChecks}
 use Rattle.rules.specs.Tallying.{tallyRest, tallyOf}
-use Rattle.page.proofs.Parts.{sized-by}
+use Rattle.places.proofs.Parts.{sized-by}
 use Rattle.page.proofs.tally.Statement.{statement}
 use Rattle.page.proofs.tally.Tie as tie
 

@@ -3,22 +3,20 @@ use crate::Answer;
 use crate::Reading;
 use crate::Value;
 use crate::Valued;
-use crate::inner::looking::Looked;
-use crate::inner::looking::look;
 use answers::Refusal;
 use cells::inner::rule::start;
-use counts::Length;
 use counts::Radius;
 use floats::inner::over_256;
-use product::inner::range::locate;
-use product::inner::read::write_point;
+use places::inner::looking::Looked;
+use places::inner::looking::look;
+use places::inner::showing::show;
+use places::inner::showing::write_index;
 use rows::inner::row;
 use rules::Judged;
 ghost use mathlib.Core.Path.{_≡_};
 ghost use Prim.Native.Nat.{_≤_, _<_};
 ghost use lib.IntN.{pos, natAbs, _*ℤ_};
-ghost use lib.ListN as listed;
-ghost use lib.ListN.{getD, replicate};
+ghost use lib.ListN.{getD};
 ghost use Rattle.enumeration.proofs.Product.{product};
 ghost use Rattle.enumeration.specs.Reading.{productPoint};
 ghost use Rattle.floats.specs.Exact.{over256};
@@ -28,40 +26,6 @@ ghost use Rattle.rules.specs.Judging.{shown, Indexes, Shows};
 ghost use Rattle.rules.specs.Reading.{told, carried, readSaysIn, readLeavesIn, coefficientSaysIn, coefficientCarriesIn};
 ghost use Rattle.cells.specs.Bounds.{InTable};
 ghost use Rattle.page.specs.Meanings.{answerMeaning, readMeaning, valueMeaning, valuesIn, coefficientMeaning, coefficientValues};
-
-// The point of an index below N.
-fn write_index(length: Length, radius: Radius, n: u64, out: &mut [i32])
-    requires { ⌜ Indexes product (length .0) (radius .0) n × (listed.length (now out) ≡ length .0) ⌝ }
-    ensures { λ _. ⌜ now (out .exit) ≡ productPoint (length .0) (radius .0) n ⌝ }
-{
-    let range = locate(length, radius, n);
-    write_point(length, radius, n, range, out);
-}
-
-// Zeros into the whole buffer.
-fn clear(out: &mut [i32])
-    ensures { λ _. ⌜ now (out .exit) ≡ replicate (listed.length (now (out .entry))) (pos 0) ⌝ }
-{
-    let mut at = 0;
-    while at < out.len() {
-        out[at] = 0;
-        at += 1;
-    }
-}
-
-// The point of a place that is sound or mended, and zeros for the others.
-fn show(length: Length, judged: Judged, out: &mut [i32])
-    requires { ⌜ Shows product (length .0) judged × (listed.length (now out) ≡ length .0) ⌝ }
-    ensures { λ _. ⌜ now (out .exit) ≡ shown product (length .0) judged ⌝ }
-{
-    match judged {
-        Judged::Sound { radius, index } => write_index(length, Radius(radius), index, out),
-        Judged::Mended { radius, index } => write_index(length, Radius(radius), index, out),
-        Judged::Missing => clear(out),
-        Judged::Contested => clear(out),
-        Judged::Unreadable { reason: _ } => clear(out),
-    }
-}
 
 // The answer that a caller sees.
 fn answer(judged: Judged) -> Answer

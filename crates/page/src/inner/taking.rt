@@ -7,7 +7,7 @@ use records::inner::place_in;
 ghost use mathlib.Core.Path.{_≡_};
 ghost use Prim.Native.Nat.{_+_, _/_, _≤_, _<_, min};
 ghost use Rattle.rules.specs.Taking.{wrongLengths, takeSaysIn, takeLeavesIn, refusals, takeLeaves, collected};
-ghost use Rattle.page.specs.Bounds.{Sized};
+ghost use Rattle.places.specs.Bounds.{Sized};
 ghost use Rattle.page.specs.Meanings.{takeMeaning};
 
 // Whether the record is not 8 bytes, or the page not 9 for each place.

@@ -1,12 +1,12 @@
 -- `probe::probe_check` is the number of what the call check says. Assumes nothing.
 use borrow.Author.Needs.{needs}
 use mathlib.Core.Path.{ap, _∙_}
-use Rattle.probe.specs.Coded.{numbered}
+use Rattle.answers.specs.Checks.{numberSaid}
 use Rattle.probe.proofs.probe_check.Statement.{statement}
 use Rattle.probe.proofs.probe_check.Tie as tie
 
 returns : tie.Need-returns
-returns c = c .check-number .ensures ∙ ap numbered (c .before .check .ensures)
+returns c = c .check-number .ensures ∙ ap numberSaid (c .before .check .ensures)
 
 pub probe-check-spec : {M : Type 1} → statement M
 probe-check-spec =

@@ -2,7 +2,7 @@
 use borrow.Author.Needs.{needs}
 use mathlib.Core.Path.{_∙_}
 use Rattle.points.specs.Calls.{pointMeaning, pointSays}
-use Rattle.probe.specs.Coded.{numbered}
+use Rattle.answers.specs.Checks.{numberSaid}
 use Rattle.probe.proofs.Codes.{says-coded}
 use Rattle.probe.proofs.probe_point.Statement.{statement}
 use Rattle.probe.proofs.probe_point.Tie as tie
@@ -27,7 +27,7 @@ returns c =
     let a = c .before .before .before .before .before .args in
     let answer = c .before .before .before .point in
     let said = pointSays (a .length) (a .radius) (a .n) (a .out .now) in
-    (says-coded pointMeaning numbered (answer .result) _ said (c .enum-told .given .1) (answer .ensures .0), answer .ensures .1)
+    (says-coded pointMeaning numberSaid (answer .result) _ said (c .enum-told .given .1) (answer .ensures .0), answer .ensures .1)
 
 same-length-2 : tie.Need-same-length-2
 same-length-2 c = search needs
@@ -38,7 +38,7 @@ returns-2 c =
     let answer = c .before .before .before .before .before .point in
     let said = pointSays (a .length) (a .radius) (a .n) (a .out .now) in
     let told = c .before .before .refusal .given in
-    (c .number .ensures ∙ says-coded pointMeaning numbered (answer .result) _ said (told .1) (answer .ensures .0), answer .ensures .1)
+    (c .number .ensures ∙ says-coded pointMeaning numberSaid (answer .result) _ said (told .1) (answer .ensures .0), answer .ensures .1)
 
 pub probe-point-spec : {M : Type 1} → statement M
 probe-point-spec =

@@ -4,9 +4,9 @@ use mathlib.Core.Path.{sym, _∙_}
 use native.Mathlib.Omega.{arith}
 use borrow.Author.Needs.{needs}
 use Rattle.enumeration.proofs.Product.{product}
-use Rattle.page.proofs.Looking.{lookable, shows-at}
-use Rattle.page.proofs.Parts.{sized-by, places-to}
-use Rattle.page.proofs.Placed.{row-in}
+use Rattle.places.proofs.Looking.{lookable, shows-at}
+use Rattle.places.proofs.Parts.{sized-by, places-to}
+use Rattle.places.proofs.Placed.{row-in}
 use Rattle.page.proofs.ReadSays.{coefficient-8, coefficient-4, coefficient-13, coefficient-12, coefficient-0}
 use Rattle.page.proofs.inner.reading.coefficient_in.Statement.{statement}
 use Rattle.page.proofs.inner.reading.coefficient_in.Tie as tie
@@ -29,7 +29,7 @@ returns-3 c = let a = c .before .before .before .before .before .before .before 
 look-requires : tie.Need-look-requires
 look-requires c κs =
     let a = c .before .before .before .before .before .before .before .before in
-    lookable (sized-by (a .pre)) (row-in (a .pre) (c .before .before .before .before .before .if1 .left)) (a .args .page .now) (c .before .before .before .before .start .ensures) (c .before .before .before .if2 .left) (c .before .before .before .before .before .if1 .left)
+    lookable (sized-by (a .pre)) (a .args .page .now) (c .before .before .before .before .start .ensures) (c .before .before .before .if2 .left) (c .before .before .before .before .before .if1 .left) (row-in (a .pre) (c .before .before .before .before .before .if1 .left))
 
 value-requires : tie.Need-value-requires
 value-requires c κs =

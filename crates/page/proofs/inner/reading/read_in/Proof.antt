@@ -3,9 +3,9 @@
 use mathlib.Core.Path.{sym, _∙_}
 use borrow.Author.Needs.{needs}
 use Rattle.enumeration.proofs.Product.{product}
-use Rattle.page.proofs.Looking.{lookable, shows-at}
-use Rattle.page.proofs.Parts.{sized-by, places-to}
-use Rattle.page.proofs.Placed.{row-in}
+use Rattle.places.proofs.Looking.{lookable, shows-at}
+use Rattle.places.proofs.Parts.{sized-by, places-to}
+use Rattle.places.proofs.Placed.{row-in}
 use Rattle.page.proofs.ReadSays.{read-8, read-4, read-4-out, read-12, read-0}
 use Rattle.page.proofs.inner.reading.read_in.Statement.{statement}
 use Rattle.page.proofs.inner.reading.read_in.Tie as tie
@@ -28,7 +28,7 @@ returns-3 c = let a = c .before .before .before .before .before .before .before 
 look-requires : tie.Need-look-requires
 look-requires c κs =
     let a = c .before .before .before .before .before .before .before .before in
-    lookable (sized-by (a .pre)) (row-in (a .pre) (c .before .before .before .before .before .if1 .left)) (a .args .page .now) (c .before .before .before .before .start .ensures) (c .before .before .before .if2 .left) (c .before .before .before .before .before .if1 .left)
+    lookable (sized-by (a .pre)) (a .args .page .now) (c .before .before .before .before .start .ensures) (c .before .before .before .if2 .left) (c .before .before .before .before .before .if1 .left) (row-in (a .pre) (c .before .before .before .before .before .if1 .left))
 
 show-requires : tie.Need-show-requires
 show-requires c κs =

@@ -6,7 +6,7 @@ use lib.ListN.{length}
 use borrow.Author.Needs.{needs}
 use Rattle.rules.specs.Cell.{setCell}
 use Rattle.rules.specs.Taking.{badCell, arriveCell}
-use Rattle.page.proofs.Parts.{lent, put-back, places-to}
+use Rattle.places.proofs.Parts.{lent, put-back, places-to}
 use Rattle.page.proofs.TakeSays.{take-4, eight, take-8, its-cell-ends, its-cell-nine, take-12, take-0}
 use Rattle.page.proofs.inner.taking.take_in.Statement.{statement}
 use Rattle.page.proofs.inner.taking.take_in.Tie as tie

@@ -5,10 +5,10 @@ use mathlib.Core.Path.{sym, _∙_}
 use native.Mathlib.Omega.{arith}
 use borrow.Author.Needs.{needs}
 use Rattle.enumeration.proofs.Product.{product}
-use Rattle.page.proofs.Looking.{lookable}
-use Rattle.page.proofs.Parts.{places-to, inside, place-to}
+use Rattle.places.proofs.Looking.{lookable}
+use Rattle.places.proofs.Parts.{places-to, inside, place-to}
 use Rattle.page.proofs.TallySays.{Tallying, tally-4, begins, ends, count-fits, tally-12, counts-on}
-use Rattle.page.proofs.Walking.{some-row, in-table}
+use Rattle.places.proofs.Walking.{some-row, in-table}
 use Rattle.page.proofs.inner.tallying.tally_in.Statement.{statement}
 use Rattle.page.proofs.inner.tallying.tally_in.Tie as tie
 
@@ -40,7 +40,7 @@ look-requires : tie.Need-look-requires Inv-loop μ-loop
 look-requires c κs =
     let a = c .before .before .before .before .before .before .before .before in
     let i = c .before .before .loop in
-    lookable (a .pre) (in-table (c .walked .ensures)) (a .args .page .now) (c .before .before .before .before .before .start .ensures) (c .before .before .before .before .if1 .left) (search needs)
+    lookable (a .pre) (a .args .page .now) (c .before .before .before .before .before .start .ensures) (c .before .before .before .before .if1 .left) (search needs) (in-table (c .walked .ensures))
 
 returns-2 : tie.Need-returns-2 Inv-loop μ-loop
 returns-2 c =
@@ -48,14 +48,14 @@ returns-2 c =
     let i = c .before .before .before .before .before .loop in
     tally-12 product (a .pre) (a .args .page .now) (c .before .before .before .before .before .before .before .before .start .ensures) (c .before .before .before .before .before .before .before .if1 .left) (i .inv) (search needs) (c .before .before .before .walked .ensures) (sym (c .enum-told .given .1) ∙ c .before .before .look .ensures)
 
-number-requires : tie.Need-number-requires Inv-loop μ-loop
-number-requires c κs = tt
+answer-number-requires : tie.Need-answer-number-requires Inv-loop μ-loop
+answer-number-requires c κs = tt
 
 add-counts : tie.Need-add-counts Inv-loop μ-loop
 add-counts c =
     let a = c .before .before .before .before .before .before .before .before .before .before .before .before .before in
     let i = c .before .before .before .before .before .before .before .loop in
-    omega (arith, count-fits product (a .pre) (a .args .page .now) (c .before .before .before .before .before .before .before .before .before .before .start .ensures) (c .before .before .before .before .before .before .before .before .before .if1 .left) (i .inv) (search needs) (c .number .result))
+    omega (arith, count-fits product (a .pre) (a .args .page .now) (c .before .before .before .before .before .before .before .before .before .before .start .ensures) (c .before .before .before .before .before .before .before .before .before .if1 .left) (i .inv) (search needs) (c .answer-number .result))
 
 add-place : tie.Need-add-place Inv-loop μ-loop
 add-place c =
@@ -67,7 +67,7 @@ loop-again : tie.Need-loop-again Inv-loop μ-loop
 loop-again c =
     let a = c .before .before .before .before .before .before .before .before .before .before .before .before .before in
     let i = c .before .before .before .before .before .before .before .loop in
-    counts-on product (a .pre) (a .args .page .now) (c .before .before .before .before .before .before .before .before .before .before .start .ensures) (c .before .before .before .before .before .before .before .before .before .if1 .left) (i .inv) (search needs) (c .before .before .before .before .before .walked .ensures) (sym (c .before .before .judged .given .1) ∙ c .before .before .before .before .look .ensures) (c .number .ensures .0)
+    counts-on product (a .pre) (a .args .page .now) (c .before .before .before .before .before .before .before .before .before .before .start .ensures) (c .before .before .before .before .before .before .before .before .before .if1 .left) (i .inv) (search needs) (c .before .before .before .before .before .walked .ensures) (sym (c .before .before .judged .given .1) ∙ c .before .before .before .before .look .ensures) (c .answer-number .ensures .0)
 
 returns-3 : tie.Need-returns-3 Inv-loop μ-loop
 returns-3 c =
@@ -90,7 +90,7 @@ tally-in-spec =
     (λ c. search needs)
     returns-2
     (λ c. search needs)
-    number-requires
+    answer-number-requires
     (λ c. search needs)
     (λ c. search needs)
     add-counts

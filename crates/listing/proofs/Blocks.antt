@@ -1,0 +1,45 @@
+-- Records taken block by block: whole blocks so far, and one more. Assumes nothing.
+use Prim.Native.Nat.{ℕ, _+_, _*_}
+use mathlib.Core.List.{List, [], _++_}
+use mathlib.Core.Path.{_≡_, refl, sym, ap, ap₂, _∙_}
+use native.Mathlib.Omega.{arith}
+use lib.ListN.{length, length-append}
+use Rattle.rules.proofs.Blocks.{collected-then}
+use Rattle.rules.proofs.Runs.{parts-none}
+use Rattle.rules.specs.Taking.{Received, after, collected}
+use Rattle.listing.specs.Took.{Took}
+
+-- of whole records
+pub record TookWhole (t pg left : List ℕ) (refused : ℕ) : Type 0 where
+  pub took : Took t pg left refused
+  pub records : ℕ
+  pub whole : length (took .bytes) ≡ 8 * records
+
+pub took-none : (t pg : List ℕ) → TookWhole t pg pg 0
+unfolding after
+took-none t pg = record {
+  took = record { bytes = []; is-left = rw (parts-none [] refl) refl; is-refused = rw (parts-none [] refl) refl };
+  records = 0;
+  whole = refl;
+}
+
+module _ {t pg left : List ℕ} {refused : ℕ} (so-far : TookWhole t pg left refused) (block : List ℕ) {left′ : List ℕ} {more : ℕ}
+    (is-left : left′ ≡ collected t left block .page) (is-more : more ≡ collected t left block .refused) where
+  pub took-more : Took t pg left′ (refused + more)
+  took-more =
+      let before = so-far .took in
+      let all = collected-then t pg (before .bytes) block (so-far .records) (so-far .whole) in
+      record {
+        bytes = before .bytes ++ block;
+        is-left = is-left ∙ ap (λ (page : List ℕ). collected t page block .page) (before .is-left) ∙ sym (ap (λ (s : Received). s .page) all);
+        is-refused =
+            ap₂ _+_ (before .is-refused) (is-more ∙ ap (λ (page : List ℕ). collected t page block .refused) (before .is-left)) ∙ sym (ap (λ (s : Received). s .refused) all);
+      }
+
+  pub took-block : (n : ℕ) → length block ≡ 8 * n → TookWhole t pg left′ (refused + more)
+  unfolding took-more
+  took-block n size = record {
+    took = took-more;
+    records = so-far .records + n;
+    whole = length-append (so-far .took .bytes) block ∙ omega (arith, so-far .whole, size);
+  }

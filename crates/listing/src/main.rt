@@ -1,0 +1,38 @@
+// The listing program (document 01, "Listing program"): lists the page that `records.bin` makes with the table in `pairing.bin`, both in the directory
+// that it is run in. It takes the records a block at a time and writes the lines a block at a time, so its memory does not grow with the files. What is
+// taken and what is written is decided by the calls; a missing file is empty, and so is one that cannot be opened, which standard error tells.
+mod input;
+mod output;
+
+use cells::inner::rule::start;
+use input::read_table;
+use input::take_records;
+use output::print_lines;
+use output::print_refused;
+use output::print_tally;
+use pairing::Checked;
+use pairing::check;
+ghost use Prim.Native.Nat.{_≤_};
+
+// Lists a page of so many places.
+fn list(table: &[u8], places: usize)
+    requires { ⌜ places ≤ 4096 ⌝ }
+{
+    let mut room = [0u8; 36864];
+    let size = start(places);
+    let page = &mut room[..size];
+    let refused = take_records(table, page);
+    if print_lines(table, page, places) {
+        print_tally(table, page, refused);
+    }
+}
+
+fn main() {
+    let mut room = [0u8; 513];
+    let size = read_table(&mut room);
+    let table = &room[..size];
+    match check(table) {
+        Checked::Places(places) => list(table, places),
+        Checked::Refused(refusal) => print_refused(refusal),
+    }
+}

@@ -1,0 +1,67 @@
+// What is printed, a block at a time. Where it cannot be written, standard error tells so, and nothing more is printed.
+use answers::Refusal;
+use libc::STDOUT_FILENO;
+use page::Tallied;
+use page::tally;
+use report::Lined;
+use report::Listed;
+use report::last_line;
+use report::lines;
+use report::refused_line;
+
+// Writes all of a text, or tells that it cannot.
+fn put(text: &[u8]) -> bool {
+    let written = io::write_all(STDOUT_FILENO, text);
+    if !written {
+        os::fail(b"standard output");
+    }
+    written
+}
+
+// Prints the lines of the places.
+pub fn print_lines(table: &[u8], page: &[u8], places: usize) -> bool {
+    let mut out = io::large_buffer();
+    let mut from = 0;
+    while from < places {
+        match lines(table, page, from, &mut out) {
+            Listed::Written { to, size } => {
+                if !put(&out[..size]) {
+                    return false;
+                }
+                from = to;
+            }
+            Listed::Refused(refusal) => {
+                print_refused(refusal);
+                return false;
+            }
+        }
+    }
+    true
+}
+
+// Prints the last line.
+pub fn print_tally(table: &[u8], page: &[u8], refused: u64) {
+    match tally(table, page) {
+        Tallied::Counted(counts) => {
+            let mut out = [0u8; 256];
+            match last_line(counts, refused, &mut out) {
+                Lined::Written(size) => {
+                    put(&out[..size]);
+                }
+                Lined::Refused(refusal) => print_refused(refusal),
+            }
+        }
+        Tallied::Refused(refusal) => print_refused(refusal),
+    }
+}
+
+// Prints a refusal.
+pub fn print_refused(refusal: Refusal) {
+    let mut out = [0u8; 256];
+    match refused_line(refusal, &mut out) {
+        Lined::Written(size) => {
+            put(&out[..size]);
+        }
+        Lined::Refused(_) => {}
+    }
+}

@@ -1,0 +1,18 @@
+-- The listing of document 01's whole case, and of single files beside it, computed. Assumes nothing.
+use mathlib.Core.Path.{refl}
+use Rattle.counts.specs.Counts.{N, binomial, D, S, B, sumAfter, rangeSize, rangeStart}
+use Rattle.counts.specs.Width.{width, bitsFrom}
+use Rattle.enumeration.specs.Reading.{rangeFrom, rangeOf, patternOf, firstMagnitude, shapeLeft, shapeOf, signsOf, pointFrom, pointIn, productPoint}
+use Rattle.tables.specs.Row.{byteOf, badRadius, badRadii, badRow}
+use Rattle.tables.specs.Table.{placesBefore, rowsBefore}
+use Rattle.rules.specs.Cell.{cell, setCell}
+use Rattle.rules.specs.Taking.{badCell, takeCell, refusals, arrive, after, partsFrom}
+use Rattle.rules.specs.Judging.{judgeCodeword, judgeRecord, judge}
+use Rattle.rules.specs.Tallying.{countOf}
+use Rattle.text.specs.Text.{decimal, digitsOf}
+use Rattle.report.specs.Listing.{linesFrom}
+use Rattle.report.specs.Example.{Example}
+
+pub example : Example
+unfolding N binomial D S B sumAfter rangeSize rangeStart width bitsFrom rangeFrom rangeOf patternOf firstMagnitude shapeLeft shapeOf signsOf pointFrom pointIn productPoint byteOf badRadius badRadii badRow placesBefore rowsBefore cell setCell badCell takeCell refusals arrive after partsFrom judgeCodeword judgeRecord judge countOf decimal digitsOf linesFrom
+example = record { whole-case = refl; no-records = refl; damaged = refl; bad-table = refl; no-table = refl }

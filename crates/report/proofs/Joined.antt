@@ -1,0 +1,45 @@
+-- The lines of places, one after the other: one more, and two blocks that make one. Assumes nothing.
+use Prim.Native.Nat.{ℕ, zero, suc, _+_, _-_, _*_, _≤_}
+use mathlib.Core.List.{List, [], _++_, append-nil, append-assoc}
+use mathlib.Core.Path.{_≡_, refl}
+use native.Mathlib.Nat.{zero-add, add-zero, suc-add}
+use native.Mathlib.Omega.{arith}
+use Rattle.enumeration.specs.Enumeration.{Enumeration}
+use Rattle.tables.specs.Table.{rowOf}
+use Rattle.text.proofs.Writing.{wrote-then, nothing-written}
+use Rattle.text.specs.Written.{Wrote}
+use Rattle.report.specs.Calls.{lineSpace}
+use Rattle.report.specs.Listing.{lineIn, lineAt, linesFrom}
+
+module _ (e : Enumeration) (t pg : List ℕ) where
+  pub lines-none : (p : ℕ) → linesFrom e t pg p 0 ≡ []
+  unfolding linesFrom
+  lines-none p = refl
+
+  -- n lines, and m more from where they end
+  pub lines-joined : (p n m : ℕ) → linesFrom e t pg p (n + m) ≡ linesFrom e t pg p n ++ linesFrom e t pg (p + n) m
+  unfolding linesFrom
+  lines-joined p zero m = rw (zero-add m, add-zero p) refl
+  lines-joined p (suc n) m =
+      let on : suc p + n ≡ p + suc n = omega arith in
+      rw (suc-add n m, lines-joined (suc p) n m, on, append-assoc (lineAt e t pg p) (linesFrom e t pg (suc p) n) (linesFrom e t pg (p + suc n) m)) refl
+
+  one-line : (p : ℕ) → linesFrom e t pg p 1 ≡ lineAt e t pg p
+  unfolding linesFrom
+  one-line p = append-nil (lineAt e t pg p)
+
+  -- so many lines are written, and no more than that many bytes
+  abbrev pub LinesTo : ℕ → ℕ → List ℕ → ℕ → List ℕ → Type 0
+  LinesTo from p held end holds = Wrote held 0 (linesFrom e t pg from (p - from)) (lineSpace * (p - from)) end holds
+
+  pub begins-lines : (from : ℕ) (held : List ℕ) → LinesTo from from held 0 held
+  begins-lines from held = let none : from - from ≡ 0 = omega arith in rw (none, lines-none from) (nothing-written held 0)
+
+  pub line-more : {held x y : List ℕ} {from p row end r : ℕ} → from ≤ p → row ≡ rowOf t p
+      → LinesTo from p held end x → Wrote x end (lineIn e t row pg p) lineSpace r y → LinesTo from (p + 1) held r y
+  line-more {from = from} {p = p} h is-row so-far line =
+      let one : p + 1 - from ≡ (p - from) + 1 = omega arith in
+      let here : from + (p - from) ≡ p = omega arith in
+      let all = wrote-then so-far (rw is-row at line) in
+      rw (one, lines-joined from (p - from) 1, here, one-line p)
+      (record { ends = all .ends; made = all .made; to = omega (arith, all .to) })

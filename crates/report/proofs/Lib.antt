@@ -1,0 +1,5 @@
+pub mod Example
+pub mod Joined
+pub mod LinesSays
+pub mod Steps
+pub mod OneToOne

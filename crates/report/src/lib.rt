@@ -1,0 +1,71 @@
+// The calls of the report (document 01, "Listing program"): the lines of places, the last line, and the line of a refusal, each into a lent buffer. What
+// they are made of stands in `inner`; the text itself, in `text`.
+pub mod inner;
+
+use answers::Refusal;
+use answers::number;
+use inner::block::lines_in;
+use page::Counts;
+use pairing::inner::survey::Surveyed;
+use pairing::inner::survey::survey;
+use text::inner::lines::write_last_line;
+use text::inner::lines::write_refused_line;
+ghost use mathlib.Core.Path.{_≡_};
+ghost use Prim.Native.Nat.{_≤_};
+ghost use lib.ListN.{length};
+ghost use Rattle.answers.specs.Refusals.{numberOf};
+ghost use Rattle.enumeration.proofs.Product.{product};
+ghost use Rattle.page.specs.Meanings.{countsMeaning};
+ghost use Rattle.text.specs.Text.{refusedText};
+ghost use Rattle.report.specs.Listing.{lastLine};
+ghost use Rattle.report.specs.Calls.{listedMeaning, linedMeaning, sizeListed, sizeLined, linesSays, linesLeaves, lineSays, lineLeaves};
+
+// Lines written: the place from which to go on, and how many bytes they have.
+pub enum Listed {
+    Written { to: usize, size: usize },
+    Refused(Refusal),
+}
+
+// A line written: how many bytes it has.
+pub enum Lined {
+    Written(usize),
+    Refused(Refusal),
+}
+
+// The call lines: those of the places from `from` on, as many as there are or as the buffer has room for, 256 bytes each.
+pub fn lines(table: &[u8], page: &[u8], from: usize, out: &mut [u8]) -> Listed
+    ensures { λ r. ⌜ (listedMeaning r ≡ linesSays product (now (table .entry)) (now (page .entry)) from (now (out .entry))) × (now (out .exit) ≡ linesLeaves product (now (table .entry)) (now (page .entry)) from (now (out .entry))) × (sizeListed r ≤ length (now (out .exit))) ⌝ }
+{
+    match survey(table, from) {
+        Surveyed::Good { places, row } => lines_in(table, places, row, page, from, out),
+        Surveyed::Bad(refusal) => Listed::Refused(refusal),
+    }
+}
+
+// The call last_line: the five counts, and the number of refused takes.
+pub fn last_line(counts: Counts, refused: u64, out: &mut [u8]) -> Lined
+    ensures { λ r. ⌜ (linedMeaning r ≡ lineSays (lastLine (countsMeaning counts) refused) (now (out .entry))) × (now (out .exit) ≡ lineLeaves (lastLine (countsMeaning counts) refused) (now (out .entry))) × (sizeLined r ≤ length (now (out .exit))) ⌝ }
+{
+    if out.len() < 256 {
+        return Lined::Refused(Refusal::BufferLength);
+    }
+    let numbers = [
+        counts.sound as u64,
+        counts.mended as u64,
+        counts.missing as u64,
+        counts.contested as u64,
+        counts.unreadable as u64,
+        refused,
+    ];
+    Lined::Written(write_last_line(&numbers, 0, out))
+}
+
+// The call refused_line: what is printed for a refusal.
+pub fn refused_line(refusal: Refusal, out: &mut [u8]) -> Lined
+    ensures { λ r. ⌜ (linedMeaning r ≡ lineSays (refusedText (numberOf refusal)) (now (out .entry))) × (now (out .exit) ≡ lineLeaves (refusedText (numberOf refusal)) (now (out .entry))) × (sizeLined r ≤ length (now (out .exit))) ⌝ }
+{
+    if out.len() < 256 {
+        return Lined::Refused(Refusal::BufferLength);
+    }
+    Lined::Written(write_refused_line(number(refusal), 0, out))
+}

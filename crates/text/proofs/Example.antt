@@ -1,0 +1,23 @@
+-- The text of the document's whole case and of the numbers at the ends, computed. Assumes nothing.
+use mathlib.Core.Path.{refl}
+use Rattle.text.specs.Text.{decimal, digitsOf}
+use Rattle.text.specs.Example.{Example}
+
+pub example : Example
+unfolding decimal digitsOf
+example = record {
+  decimal-0 = refl;
+  decimal-9 = refl;
+  decimal-10 = refl;
+  decimal-4095 = refl;
+  decimal-largest = refl;
+  integer-32 = refl;
+  integer-lowest = refl;
+  place-0 = refl;
+  place-1 = refl;
+  missing = refl;
+  contested = refl;
+  unreadable = refl;
+  last = refl;
+  refused = refl;
+}

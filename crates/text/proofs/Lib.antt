@@ -1,0 +1,3 @@
+pub mod Example
+pub mod Decimal
+pub mod Writing

@@ -1,0 +1,32 @@
+-- `text::inner::lines::write_place_line` writes the line of a place, field by field. Assumes nothing.
+use mathlib.Core.List.{[], _∷_, map}
+use native.Mathlib.Omega.{arith}
+use borrow.Author.Needs.{needs}
+use Rattle.text.specs.Text.{decimal, integer, word}
+use Rattle.text.proofs.Writing.{begun, more, one-more, ended}
+use Rattle.text.proofs.inner.lines.write_place_line.Statement.{statement}
+use Rattle.text.proofs.inner.lines.write_place_line.Tie as tie
+
+returns : tie.Need-returns
+returns c =
+    let a = c .before .before .before .before .before .before .before .before .before .before .before .before .before .before .before .before .before .before .before .before .before in
+    let place = decimal (a .args .place) in
+    let answer = word (a .args .answer) in
+    let reason = decimal (a .args .reason) in
+    let coordinates = map integer (a .args .coordinates .now) in
+    let with-answer = one-more place [] (begun (c .before .before .before .before .before .before .before .before .before .before .before .before .before .before .before .before .before .before .write-decimal .ensures)) answer (c .before .before .before .before .before .before .before .before .before .before .before .before .before .before .write-word .ensures) in
+    let with-reason = one-more place (answer ∷ []) with-answer reason (c .before .before .before .before .before .before .before .before .before .before .write-number .ensures) in
+    let with-all = more place (answer ∷ reason ∷ []) with-reason coordinates (c .before .before .before .before .before .before .write-integers .ensures) in
+    ended place (answer ∷ reason ∷ coordinates) with-all (omega (arith, a .pre .0)) (c .before .before .write-byte .ensures)
+
+pub write-place-line-spec : {M : Type 1} → statement M
+write-place-line-spec =
+    tie.close
+    (tie.spec
+    (λ c κs. search needs)
+    (λ c κs. search needs)
+    (λ c κs. search needs)
+    (λ c κs. search needs)
+    (λ c κs. search needs)
+    (λ c. search needs)
+    returns)

@@ -1,0 +1,66 @@
+-- The text of the listing, as bytes (document 01, "Listing program": "Numbers are decimal, with a minus sign where negative; one space stands between
+-- fields, and a newline ends each line"). Assumes nothing.
+use Prim.Native.Char.{code}
+use Prim.Native.Nat.{ℕ, zero, suc, _+_, _-_, _*_, _/_, _%_}
+use Prim.Native.String.{String, [] as endOf, _∷_ as _then_}
+use mathlib.Core.Bool.{Bool, true, false}
+use mathlib.Core.List.{List, [], _∷_, _++_, map}
+use lib.Dec.{ltb}
+use lib.IntN.{ℤ, pos, negsuc}
+
+-- the bytes of a text: the code of each character
+abbrev pub ascii : String → List ℕ
+ascii endOf = []
+ascii (c then s) = code c ∷ ascii s
+
+-- the digit of a number below 10: `0` is 48
+abbrev pub digit : ℕ → ℕ
+digit d = 48 + d
+
+-- the digits of n, the most significant first: one if n is below 10, and else those of n / 10 and that of n % 10; f is as large as n at the least
+unfoldable pub digitsOf : ℕ → Bool → ℕ → List ℕ
+digitsOf zero below n = digit n ∷ []
+digitsOf (suc f) true n = digit n ∷ []
+digitsOf (suc f) false n = digitsOf f (ltb (n / 10) 10) (n / 10) ++ (digit (n % 10) ∷ [])
+
+unfoldable pub decimal : ℕ → List ℕ
+decimal n = digitsOf n (ltb n 10) n
+
+-- the number that digits say, behind v; proofs/Decimal.antt has it that those of n say n
+abbrev pub saidBy : ℕ → List ℕ → ℕ
+saidBy v [] = v
+saidBy v (d ∷ ds) = saidBy (10 * v + (d - 48)) ds
+
+-- with a minus sign where negative
+abbrev pub integer : ℤ → List ℕ
+integer (pos n) = decimal n
+integer (negsuc n) = ascii "-" ++ decimal (suc n)
+
+-- fields, each with one space before it
+abbrev pub spaced : List (List ℕ) → List ℕ
+spaced [] = []
+spaced (field ∷ fields) = ascii " " ++ (field ++ spaced fields)
+
+-- a line: a field, more of them, one space between each two, and a newline
+abbrev pub line : List ℕ → List (List ℕ) → List ℕ
+line field fields = field ++ (spaced fields ++ ascii "\n")
+
+-- the words of the five answers, in the order in which the tally counts them
+abbrev pub word : ℕ → List ℕ
+word zero = ascii "sound"
+word (suc zero) = ascii "mended"
+word (suc (suc zero)) = ascii "missing"
+word (suc (suc (suc zero))) = ascii "contested"
+word (suc (suc (suc (suc n)))) = ascii "unreadable"
+
+-- "a line a place: place, answer word, reason (0 where none), coordinates"; the answer by its number
+abbrev pub placeText : ℕ → ℕ → ℕ → List ℤ → List ℕ
+placeText place answer reason coordinates = line (decimal place) (word answer ∷ decimal reason ∷ map integer coordinates)
+
+-- "Last line: `tally`, the five counts, and the number of refused takes": the six numbers
+abbrev pub lastText : List ℕ → List ℕ
+lastText numbers = line (ascii "tally") (map decimal numbers)
+
+-- "A bad table prints only `refused 7`"
+abbrev pub refusedText : ℕ → List ℕ
+refusedText number = line (ascii "refused") (decimal number ∷ [])

@@ -1,0 +1,98 @@
+/* Buffers that end where memory ends: what is read or written behind one of them, as where a size is judged too late, ends the call.
+   Document 01, "Refusal numbers". */
+
+#include "slate.h"
+
+/* What this file uses of the C library, with the numbers of x86-64 Linux. */
+void *mmap(void *at, size_t size, int access, int manner, int file, int64_t offset);
+int mprotect(void *at, size_t size, int access);
+enum { NO_ACCESS = 0, READ_AND_WRITE = 3, PRIVATE_AND_OF_NO_FILE = 0x22, NO_FILE = -1 };
+
+enum { ROOM = 65536, EDGE_TABLES = 150, MOST_SIZE = 600, FEW_PLACES = 3 };
+
+static struct page page;
+static uint8_t *table_end, *page_end, *record_end;
+
+/* The end of a room, behind which nothing can be read or written. */
+static uint8_t *end_of_room(void)
+{
+    uint8_t *room = mmap(NULL, 2 * ROOM, READ_AND_WRITE, PRIVATE_AND_OF_NO_FILE, NO_FILE, 0);
+    own_figure("rooms that cannot be had", mprotect(room + ROOM, ROOM, NO_ACCESS) != 0, 0);
+    return room + ROOM;
+}
+
+/* So many bytes, up to the end. */
+static uint8_t *lend(uint8_t *to_end, const uint8_t *bytes, uint64_t size)
+{
+    uint8_t *lent = to_end - size;
+    for (uint64_t i = 0; i < size; i++)
+        lent[i] = bytes[i];
+    return lent;
+}
+
+/* What was lent, after a call, and what it must be. */
+static void compare_bytes(const struct taking *taking, const char *what, const uint8_t *lent, const uint8_t *wanted, uint64_t size)
+{
+    if (memcmp(lent, wanted, size) == 0)
+        return;
+    print_taking("aldrynja_take at the end of memory", taking);
+    printf(", byte %ld of the %s", first_other_byte(wanted, lent) + GUARDS, what);
+    end("it is not as it must be");
+}
+
+static void compare_at_edge(const struct case_of_page *of)
+{
+    const struct table *table = &of->table;
+    const struct arrival *record = &of->arrival;
+    uint8_t *lent_table = lend(table_end, table->bytes, table->size), *lent_page = lend(page_end, cell_at(&page, 0), page.size);
+    uint8_t *lent_record = lend(record_end, record->bytes, record->length), before[CELL_SIZE];
+    copy_claimed(&page, record, before);
+    const struct taking taking = {table, &page, record, before, take(table, &page, record)};
+    const uint64_t refusal = taking.expected.items[0];
+    call_take(&taking, lent_table, lent_page, lent_record);
+    compare_bytes(&taking, "table", lent_table, table->bytes, table->size);
+    compare_bytes(&taking, "page", lent_page, cell_at(&page, 0), page.size);
+    compare_bytes(&taking, "record", lent_record, record->bytes, record->length);
+    note_slate(EDGE_TAKEN, refusal == 0);
+    note_slate(EDGE_PART_OF_ROW, table->size % ROW_SIZE != 0);
+    note_slate(EDGE_PAGE_SHORT, refusal == 4 && page.size < CELL_SIZE * page.places);
+    note_slate(EDGE_RECORD_SHORT, refusal == 4 && record->length < RECORD_SIZE);
+}
+
+/* Every length of a record, and of a page from none to two cells too long. */
+static void compare_case_at_edge(const struct case_of_page *right)
+{
+    struct case_of_page of = *right;
+    for (of.arrival.length = 0; of.arrival.length <= MOST_TAKEN; of.arrival.length++)
+        compare_at_edge(&of);
+    of.arrival.length = RECORD_SIZE;
+    for (page.size = 0; page.size <= CELL_SIZE * (page.places + CELLS_BEHIND); page.size++) {
+        set_two_bytes(of.arrival.bytes + AT_PLACE, chance_below(2) ? page.places - 1 : chance_below(page.places));
+        compare_at_edge(&of);
+    }
+}
+
+/* Every size of good rows, the page as large as the whole ones would have it. */
+static void compare_tables_at_edge(void)
+{
+    struct case_of_page of = {.table = rows_by_chance(MOST_LENT_ROWS, FEW_PLACES), .arrival = {.length = RECORD_SIZE}};
+    for (of.table.size = 0; of.table.size <= MOST_SIZE; of.table.size++) {
+        const uint64_t places = places_of_rows(&of.table);
+        begin_page(&page, places > 0 ? places : 1);
+        set_two_bytes(of.arrival.bytes + AT_PLACE, page.places - 1);
+        compare_at_edge(&of);
+    }
+}
+
+void compare_edges(void)
+{
+    table_end = end_of_room();
+    page_end = end_of_room();
+    record_end = end_of_room();
+    for (int i = 0; i < EDGE_TABLES; i++) {
+        const struct case_of_page right = right_case(&page, small_table_by_chance());
+        compare_case_at_edge(&right);
+    }
+    compare_tables_at_edge();
+    printf("edges: the pages of %d tables, and %d sizes of a table\n", EDGE_TABLES, MOST_SIZE + 1);
+}

@@ -1,0 +1,124 @@
+/* Takes by chance into pages of every size that go on growing: from empty ones, and from ones with cells of every state and at fault;
+   records that are held already, that differ in one byte or in several, and that are not in the table; lengths that are wrong, and
+   tables that are bad. Document 01, "The page". */
+
+#include "slate.h"
+
+enum { TAKES_OF_CLASS = 600000, TAKES_OF_TABLE = 400, RECENT = 8 };
+
+/* How a page begins, and whether cells are drawn anew between the takes. */
+enum manner { FROM_EMPTY, FROM_DRAWN, DRAWN_ANEW, MANNERS };
+
+/* A page that goes on growing, by its table. */
+struct growing {
+    struct table table;
+    struct table bad[2];
+    enum manner manner;
+    uint64_t takes;          /* that it has had so far */
+    uint64_t recent[RECENT]; /* the places that they were at */
+};
+
+static struct page page;
+static uint64_t tables, takes;
+
+/* A good table with so many places. */
+static struct table table_of(uint64_t places)
+{
+    struct table table = good_table_by_chance();
+    const uint64_t drawn = table.size / ROW_SIZE, rows = drawn < places ? drawn : places;
+    table.size = rows * ROW_SIZE;
+    for (uint64_t row = 0; row < rows; row++)
+        set_two_bytes(table.bytes + row * ROW_SIZE + AT_PLACES, 1 + chance_below(places / rows));
+    aim_total(&table, rows - 1, places);
+    const struct judgment judgment = judge(table.bytes, table.size);
+    own_figure("faults of a table of good rows", judgment.faults, 0);
+    own_figure("places of a table", judgment.places, places);
+    return table;
+}
+
+/* A table that is bad by one byte alone. */
+static struct table spoiled(const struct table *good)
+{
+    struct table table;
+    do {
+        table = *good;
+        table.bytes[chance_below(table.size)] = (uint8_t)chance_below(256);
+    } while (judge(table.bytes, table.size).faults == 0);
+    return table;
+}
+
+static void begin_anew(const struct growing *growing)
+{
+    if (growing->manner == FROM_EMPTY)
+        begin_page(&page, page.places);
+    else
+        page_by_chance(&page, &growing->table, 8);
+}
+
+/* A place that had a record lately, or any. */
+static uint64_t next_place(struct growing *growing)
+{
+    const uint64_t choice = chance_below(4), recent = growing->recent[chance_below(RECENT)];
+    const uint64_t place = choice == 0 ? some_place(&growing->table) : choice == 1 ? chance_below(page.places) : recent;
+    growing->recent[growing->takes % RECENT] = place;
+    return place;
+}
+
+/* A record that claims the place, with bytes behind it that repeat it, so that it may be lent too long. */
+static struct arrival record_at(const struct growing *growing, uint64_t place)
+{
+    struct arrival record = arrival_by_chance(&growing->table, &page, place);
+    if (chance_below(16) == 0)
+        set_two_bytes(record.bytes + AT_PLACE, place_past_end(page.places));
+    if (chance_below(32) == 0)
+        record.length = other_than(RECORD_SIZE, MOST_TAKEN);
+    if (chance_below(64) == 0)
+        record.length = MOST_TAKEN + 1 + chance_below(MOST_ARRIVAL - MOST_TAKEN);
+    for (uint64_t i = RECORD_SIZE; i < record.length; i++)
+        record.bytes[i] = record.bytes[i - RECORD_SIZE];
+    return record;
+}
+
+static void compare_next(struct growing *growing)
+{
+    const uint64_t place = next_place(growing);
+    if (growing->manner == DRAWN_ANEW && chance_below(4))
+        draw_cell(&page, &growing->table, place, 6);
+    const struct arrival record = record_at(growing, place);
+    const struct table *table = chance_below(32) ? &growing->table : growing->bad + chance_below(2);
+    if (chance_below(32) == 0)
+        page.size = wrong_page_size(&page);
+    compare_lending(&(struct lending){.table = table, .page = &page, .record = &record});
+    page.size = CELL_SIZE * page.places;
+    growing->takes++;
+}
+
+/* The takes of one table. A page of few places begins anew once most of them must be contested. */
+static uint64_t compare_table(uint64_t places, uint64_t number)
+{
+    const uint64_t takes_of_table = TAKES_OF_TABLE + 2 * places, until_anew = 8 + 4 * places;
+    struct growing growing = {.table = table_of(places), .manner = (enum manner)(number % MANNERS)};
+    growing.bad[0] = spoiled(&growing.table);
+    growing.bad[1] = bad_table_by_chance((enum fault)(number / MANNERS % FAULTS));
+    begin_page(&page, places);
+    while (growing.takes < takes_of_table) {
+        if (growing.takes % until_anew == 0)
+            begin_anew(&growing);
+        compare_next(&growing);
+    }
+    return takes_of_table;
+}
+
+/* Every class of pages has as many takes. */
+void compare_growth(void)
+{
+    for (int size_class = 0; size_class < CLASSES; size_class++) {
+        const uint64_t most = most_places[size_class], fewer = size_class > 0 ? most_places[size_class - 1] : 0;
+        for (uint64_t of_class = 0; of_class < TAKES_OF_CLASS; tables++) {
+            const uint64_t of_table = compare_table(most - chance_below(most - fewer), tables);
+            of_class += of_table;
+            takes += of_table;
+        }
+    }
+    printf("growing pages: %lu takes on %lu tables of 1 to 4,096 places\n", takes, tables);
+}

@@ -1,0 +1,67 @@
+/* One comparison of aldrynja_take with the rules of page.c. What the call is lent lies among guards, and every byte of it is compared
+   afterwards: only the page may change, and only as those rules say. */
+
+#include "slate.h"
+
+/* What this file uses of the C library, and the signals with which Linux ends a program that reads or writes where it may not. */
+typedef void handler(int number);
+handler *signal(int number, handler *with);
+enum { BUS = 7, SEGMENT = 11 };
+
+static const struct taking *volatile under_way;
+
+static void on_fault(int number)
+{
+    if (under_way)
+        print_taking("aldrynja_take", under_way);
+    else
+        printf("signal %d outside a comparison of aldrynja_take", number);
+    end("something is read or written that is not lent");
+}
+
+/* From here on a call that reads or writes where it may not is told like any other difference. */
+void tell_faults(void)
+{
+    signal(BUS, on_fault);
+    signal(SEGMENT, on_fault);
+}
+
+/* The call, and what it gives. */
+void call_take(const struct taking *taking, const uint8_t *table, uint8_t *page, const uint8_t *record)
+{
+    const uint32_t expected = (uint32_t)taking->expected.items[0];
+    under_way = taking;
+    const uint32_t got = aldrynja_take(table, taking->table->size, page, taking->page->size, record, taking->arrival->length);
+    under_way = 0;
+    if (got != expected) {
+        print_taking("aldrynja_take", taking);
+        differ(as_answer(expected), as_answer(got));
+    }
+    note_answer(expected);
+}
+
+/* Where a buffer is lent: a null pointer, or an address where nothing can be, only for one of no bytes. */
+static uint8_t *lent_at(enum pointer pointer, uint64_t size, uint8_t *room)
+{
+    if (pointer == TO_ROOM || size > 0)
+        return room;
+    return pointer == TO_NULL ? NULL : (uint8_t *)1;
+}
+
+uint64_t compare_lending(const struct lending *lending)
+{
+    uint8_t before[CELL_SIZE];
+    copy_claimed(lending->page, lending->record, before);
+    const struct taking taking = {lending->table, lending->page, lending->record, before,
+                                  take(lending->table, lending->page, lending->record)};
+    struct table_room table = table_among_guards(lending->table);
+    struct arrival_room record = arrival_among_guards(lending->record);
+    call_take(&taking, lent_at(lending->to_table, lending->table->size, table.bytes),
+              lent_at(lending->to_page, lending->page->size, lending->page->lent[0] + GUARDS),
+              lent_at(lending->to_record, lending->record->length, record.bytes));
+    compare_taking("aldrynja_take", &taking, 0, &table, &record);
+    note_lending(lending, taking.expected.items[0]);
+    note_take(lending->table, lending->page, lending->record, before, taking.expected);
+    note_outcome(&taking);
+    return taking.expected.items[0];
+}

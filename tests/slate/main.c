@@ -1,0 +1,21 @@
+/* The layout program in small: compares the two calls of aldrynja.h with document 01 by the rules of tests/second, and says what it
+   compared. The first difference ends it with status 1. */
+
+#include "slate.h"
+
+enum { SEED = 2026 };
+
+int main(void)
+{
+    count_points();
+    chance_from(SEED);
+    tell_faults();
+    compare_counts();
+    compare_growth();
+    compare_faults();
+    compare_sizes();
+    compare_edges();
+    compare_cases();
+    require_slate_kinds();
+    return 0;
+}

@@ -1,0 +1,84 @@
+/* The parts of the layout program in small. It links the two calls of aldrynja.h and holds them to the rules of tests/second, which
+   are written from document 01 alone and share nothing with the calls. */
+
+#ifndef SLATE_SLATE_H
+#define SLATE_SLATE_H
+
+#include "../second/page_kinds.h"
+#include "aldrynja.h"
+
+/* How a buffer is lent: in its room; or, if it has no bytes, by a null pointer or by one to nothing. */
+enum pointer { TO_ROOM, TO_NULL, TO_NOTHING };
+
+/* What aldrynja_take is lent. A size that is not right may be any number, larger than the room too: it decides the answer alone, and
+   the call may look at nothing. */
+struct lending {
+    const struct table *table;
+    struct page *page;
+    const struct arrival *record;
+    enum pointer to_table;
+    enum pointer to_page;
+    enum pointer to_record;
+};
+
+/* lending.c: one comparison of aldrynja_take with the rules of page.c, whose refusal is returned */
+void tell_faults(void);
+void call_take(const struct taking *taking, const uint8_t *table, uint8_t *page, const uint8_t *record);
+uint64_t compare_lending(const struct lending *lending);
+
+/* faults.c: the places of the whole rows of a table, good or bad, as far as the room for a page goes */
+uint64_t places_of_rows(const struct table *table);
+
+/* kinds.c: how much was compared of each kind, and an error of the test itself where there was too little of one */
+enum slate_kind {
+    COUNT_GIVEN,
+    COUNT_BAD_LENGTH,
+    COUNT_BAD_RADIUS,
+    COUNT_PAST_2_32,
+    COUNT_EXCHANGED,
+    COUNT_LENGTH_CUT_8,
+    COUNT_LENGTH_CUT_32,
+    COUNT_LENGTH_CUT_63,
+    COUNT_RADIUS_CUT_8,
+    COUNT_RADIUS_CUT_32,
+    COUNT_RADIUS_CUT_63,
+    NULL_TABLE,
+    NULL_PAGE,
+    NULL_RECORD,
+    NULL_ALL,
+    NOTHING_TABLE,
+    NOTHING_PAGE,
+    NOTHING_RECORD,
+    EMPTY_TABLE,
+    EMPTY_PAGE,
+    EMPTY_RECORD,
+    TABLE_CUT_32,
+    TABLE_FROM_2_63,
+    PAGE_CUT_32,
+    PAGE_FROM_2_63,
+    RECORD_CUT_32,
+    RECORD_FROM_2_63,
+    RECORD_LONG,
+    EDGE_TAKEN,
+    EDGE_PART_OF_ROW,
+    EDGE_PAGE_SHORT,
+    EDGE_RECORD_SHORT,
+    SLATE_KINDS
+};
+enum { CLASSES = 9 };
+extern const uint64_t most_places[CLASSES];
+void note_slate(enum slate_kind kind, int is_there);
+void note_answer(uint32_t refusal);
+void note_lending(const struct lending *lending, uint64_t refusal);
+void note_outcome(const struct taking *taking);
+void require_slate_kinds(void);
+
+/* The comparisons, each in the file that its name says */
+void compare_counts(void);
+void compare_growth(void);
+void compare_faults(void);
+void compare_sizes(void);
+void compare_edges(void);
+void compare_cases(void);
+
+#endif
