@@ -21,16 +21,22 @@ static void write_file(const char *folder, const char *name, struct bytes bytes)
         no_file(path);
 }
 
-void write_case(const char *folder, const char *name, struct bytes pairing, struct bytes records, const char *text)
+void write_case(const char *folder, const struct stored_case *stored)
 {
     char path[MOST_PATH];
-    struct bytes listing = {(const uint8_t *)text, 0};
-    while (text && text[listing.size])
+    struct bytes listing = {(const uint8_t *)stored->text, 0};
+    while (stored->text && stored->text[listing.size])
         listing.size++;
-    snprintf(path, sizeof path, "%s/%s", folder, name);
+    snprintf(path, sizeof path, "%s/%s", folder, stored->name);
     if (mkdir(path, 0777) != 0)
         no_file(path);
-    write_file(path, "pairing.bin", pairing);
-    write_file(path, "records.bin", records);
+    write_file(path, "pairing.bin", stored->pairing);
+    write_file(path, "records.bin", stored->records);
     write_file(path, "listing.txt", listing);
+}
+
+void write_cases(const char *folder, const struct stored_case *cases, uint64_t number)
+{
+    for (uint64_t i = 0; i < number; i++)
+        write_case(folder, cases + i);
 }

@@ -61,12 +61,30 @@ void hold_to_take(const struct table *table, const struct capture *capture, cons
 /* contents.c: an error of the test itself if a capture lacks something that it must hold */
 void require_contents(const struct table *table, const struct capture *capture);
 
-/* small_cases.c: cases of a few bytes, with their listings; cases.c: the files of a case */
+/* cases.c: the files of a case */
 struct bytes {
     const uint8_t *bytes; /* none: no file */
     uint64_t size;
 };
-void write_case(const char *folder, const char *name, struct bytes pairing, struct bytes records, const char *text);
+struct stored_case {
+    const char *name;
+    struct bytes pairing;
+    struct bytes records;
+    const char *text; /* the listing; none: not known here */
+};
+void write_case(const char *folder, const struct stored_case *stored);
+void write_cases(const char *folder, const struct stored_case *cases, uint64_t number);
+
+/* What is written down of a case: a file that has the bytes of an array, and the bytes of a record. */
+#define BYTES(array) {array, sizeof(array)}
+#define RECORD(place, row, number, codeword)                                                                                               \
+    (uint8_t)((place) >> 8), (uint8_t)(place), row, number, /* high byte first */                                                          \
+        (uint8_t)((codeword) >> 24), (uint8_t)((codeword) >> 16), (uint8_t)((codeword) >> 8), (uint8_t)(codeword)
+
+/* Cases of a few bytes, with their listings: small_cases.c, of the files and of what is taken; table_cases.c, of bad tables;
+   place_cases.c, of what a place shows */
 void make_small_cases(const char *folder);
+void make_table_cases(const char *folder);
+void make_place_cases(const char *folder);
 
 #endif

@@ -26,7 +26,7 @@ static void make_full_page(const char *folder)
     shuffle(&capture);
     put(&capture, lost.answer.record, RECORD_SIZE - 1);
     require_contents(&table, &capture);
-    write_case(folder, "full_page", (struct bytes){table.bytes, table.size}, (struct bytes){capture.bytes, capture.size}, NULL);
+    write_case(folder, &(struct stored_case){"full_page", {table.bytes, table.size}, {capture.bytes, capture.size}, NULL});
 }
 
 int main(int words, char **word)
@@ -38,6 +38,8 @@ int main(int words, char **word)
     count_points();
     count_patterns_and_shapes();
     make_small_cases(word[1]);
+    make_table_cases(word[1]);
+    make_place_cases(word[1]);
     make_full_page(word[1]);
     return 0;
 }

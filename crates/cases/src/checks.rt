@@ -1,11 +1,11 @@
 // The cases of the call check, and of the rows of places. A table is given by its size in bytes, the 16 bytes of the row that it has again and
 // again, and then changes, each a position and what stands there.
-use crate::input::number;
-use crate::output;
 use pairing::Checked;
 use pairing::inner::survey::Surveyed;
 use pairing::inner::survey::survey;
 use rows::inner::row;
+use script::input::number;
+use script::output;
 ghost use Prim.Native.Nat.{_<_};
 ghost use Rattle.tables.specs.Row.{rowsOf};
 

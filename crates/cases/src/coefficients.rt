@@ -1,12 +1,12 @@
 // The cases of the call quantize, and of the whole number that a coefficient becomes. A coefficient is given by its bit pattern. The record is lent
 // full of nines, so that a refused call is seen to leave it.
 use crate::checks;
-use crate::input::number;
-use crate::output;
 use answers::Refusal;
 use floats::inner::is_unusable;
 use floats::inner::nearest_whole;
 use quantizer::Quantized;
+use script::input::number;
+use script::output;
 
 // The low 32 bits as a coefficient. The patterns of NaN are beyond that of infinity.
 fn coefficient(n: u64) -> f32 {

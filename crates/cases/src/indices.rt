@@ -1,10 +1,10 @@
 // The cases of the calls index and point. A buffer is lent full of nines, so that a refused call is seen to leave it.
-use crate::input::number;
-use crate::output;
 use counts::Length;
 use counts::Radius;
 use points::Indexed;
 use points::Pointed;
+use script::input::number;
+use script::output;
 
 // index L K, and the coordinates of the vector: its index.
 pub fn index(numbers: &[u64]) {

@@ -2,10 +2,10 @@
 use crate::checks;
 use crate::coefficients;
 use crate::indices;
-use crate::input;
-use crate::output;
 use crate::pages;
 use crate::shells;
+use script::input;
+use script::output;
 ghost use Prim.Native.Nat.{_≤_};
 ghost use lib.ListN.{length};
 

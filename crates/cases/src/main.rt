@@ -5,9 +5,7 @@
 mod checks;
 mod coefficients;
 mod indices;
-mod input;
 mod lines;
-mod output;
 mod pages;
 mod shells;
 

@@ -3,11 +3,11 @@
 use crate::checks;
 use crate::coefficients::bytes;
 use crate::indices::coordinates;
-use crate::input::number;
-use crate::output;
 use floats::inner::is_negative;
 use floats::inner::is_unusable;
 use floats::inner::nearest_whole;
+use script::input::number;
+use script::output;
 ghost use Prim.Native.Nat.{_<_};
 use page::Answer;
 use page::Arrival;

@@ -1,8 +1,8 @@
 // The cases of the call count, and of the width.
-use crate::input::number;
-use crate::output;
 use counts::Length;
 use counts::Radius;
+use script::input::number;
+use script::output;
 use shell::Counted;
 
 // count L K: N.

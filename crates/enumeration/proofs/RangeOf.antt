@@ -111,6 +111,13 @@ from-holds l k n (suc t) h = go (inRange l k n (suc t)) refl h (from-holds l k n
 pub found-below : (l k n : ℕ) → 0 < rangeOf l k n → n < N l k
 found-below l k n h = from-holds l k n (most l k) (rw (range-first l k n) at h)
 
+pub none-above : (l k n : ℕ) → N l k ≤ n → rangeOf l k n ≡ 0
+none-above l k n h = go (decLt 0 (rangeOf l k n))
+  where
+    go : Dec (0 < rangeOf l k n) → rangeOf l k n ≡ 0
+    go (yes p) = absurd (omega (arith, found-below l k n p))
+    go (no p) = omega arith
+
 pub none-found : (l k n : ℕ) → rangeOf l k n ≡ 0 → 0 < k → N l k ≤ n
 none-found l zero n e p = absurd (omega arith)
 none-found l (suc k) n e p = go (decLt n (N l (suc k)))

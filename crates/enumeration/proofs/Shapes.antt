@@ -2,7 +2,8 @@
 --     second-shape                 a shape of two magnitudes
 --     first-1, first-more          how the first magnitude is found, and what number of a shape is left
 --     first-read, first-back       its offset and what is left make up the number; and it is found again from them
---     shape-at-least, last-read    no more magnitudes than their sum; the last one is all that is left
+--     shape-at-least               no more magnitudes than their sum
+--     last-read, second-read       the last magnitude is all that is left; the one before it is one more than the number of its shape
 --     shape-read                   the n-th shape has s magnitudes, all above 0, that sum to k, and index n
 --     shape-below, shape-back      a shape's index is below S(s,k), and that shape is read back from it
 -- Assumes nothing.
@@ -28,6 +29,12 @@ second-shape = refl
 pub S-start : S 0 0 ≡ 1
 unfolding S
 S-start = refl
+
+-- one magnitude makes one shape
+pub S-one : (k : ℕ) → S 1 (suc k) ≡ 1
+unfolding S binomial
+S-one zero = refl
+S-one (suc k) = refl
 
 -- there are no fewer shapes of a greater sum
 pub S-grows : (s j k : ℕ) → j ≤ k → S (suc s) j ≤ S (suc s) k
@@ -103,6 +110,18 @@ last-read k n h = go (k - firstMagnitude 0 k n) refl (first-read 0 k n h)
     go (suc j) e f =
         let below : shapeLeft 0 k n < S 0 (suc j) = rw e at (f .left-below) in
         absurd (omega (arith, S-none j))
+
+-- where one magnitude comes after it, one shape begins with each magnitude
+pub second-read : (k n : ℕ) → n < S 2 k → (firstMagnitude 1 k n ≡ suc n) × (shapeLeft 1 k n ≡ 0)
+second-read zero n h = absurd (omega (arith, S-small 2 0 (omega arith)))
+second-read (suc zero) n h = absurd (omega (arith, S-small 2 1 (omega arith)))
+second-read (suc (suc k)) zero h = first-1 1 (suc k) 0 (omega (arith, S-one k))
+second-read (suc (suc k)) (suc n) h =
+    let one = S-one k in
+    let f = first-more 1 (suc k) (suc n) (omega arith) in
+    let left : suc n - S 1 (suc k) ≡ n = omega arith in
+    let rest = second-read (suc k) n (omega (arith, S-addition 1 (suc k))) in
+    (f .0 ∙ ap (λ (m : ℕ). suc (firstMagnitude 1 (suc k) m)) left ∙ ap suc (rest .0), f .1 ∙ ap (shapeLeft 1 (suc k)) left ∙ rest .1)
 
 -- the first magnitude is i+1 and j is what is left to sum to
 pub first-back : (s j i n : ℕ) → n < S s j

@@ -1,4 +1,4 @@
--- One coordinate at a time: how a point's parts grow by a coordinate in front, and how a point is written from its parts, the first coordinate
+-- One coordinate at a time: how a point's pattern and signs grow by a coordinate in front, and how a point is written from its parts, the first coordinate
 -- first. Assumes nothing.
 use Prim.Native.Nat.{ℕ, suc, _+_, _-_, _*_, _≤_, _<_}
 use mathlib.Core.Path.{_≡_, refl}
@@ -6,14 +6,14 @@ use mathlib.Core.List.{List, [], _∷_}
 use mathlib.Core.Bool.{true}
 use native.Mathlib.Omega.{arith}
 use lib.Dec.{eqb}
-use lib.IntN.{ℤ, pos, natAbs}
+use lib.IntN.{ℤ, pos}
 use lib.ListN.{length}
 use Rattle.counts.specs.Counts.{D, B}
-use Rattle.enumeration.specs.Point.{isNonzero, isNegative, signed, radiusOf, patternIn, nonzerosIn, shapeIn, signsIn}
-use Rattle.enumeration.specs.Product.{patternIndex, shapeOffset, shapeIndex, signBit, signIndex}
+use Rattle.enumeration.specs.Point.{isNonzero, isNegative, signed, patternIn, nonzerosIn, signsIn}
+use Rattle.enumeration.specs.Product.{patternIndex, signBit, signIndex}
 use Rattle.enumeration.specs.Reading.{bit, patternOf, firstMagnitude, shapeLeft, shapeOf, signsOf, pointFrom}
 use Rattle.enumeration.proofs.Patterns.{pattern-zero, pattern-nonzero}
-use Rattle.enumeration.proofs.Spread.{shape-sum, support-many, pattern-length}
+use Rattle.enumeration.proofs.Spread.{support-many, pattern-length}
 
 -- a nonzero coordinate c in front of x
 module _ (c : ℤ) (x : List ℤ) (h : isNonzero c ≡ true) where
@@ -23,10 +23,6 @@ module _ (c : ℤ) (x : List ℤ) (h : isNonzero c ≡ true) where
   pub pattern-grows : patternIndex (patternIn (c ∷ x)) ≡ D (suc (nonzerosIn x)) (length x) + patternIndex (patternIn x)
   unfolding patternIndex
   pattern-grows = rw (h, pattern-length x)
-
-  pub shape-grows : shapeIndex (shapeIn (c ∷ x)) ≡ shapeOffset (suc (nonzerosIn x)) (radiusOf (c ∷ x)) (natAbs c) + shapeIndex (shapeIn x)
-  unfolding shapeIndex
-  shape-grows = rw (h, support-many natAbs x, shape-sum x)
 
   pub sign-grows : signIndex (signsIn (c ∷ x)) ≡ signBit (isNegative c) * B (nonzerosIn x) + signIndex (signsIn x)
   unfolding signIndex B

@@ -58,8 +58,3 @@ pub nonzero-bits : (z : ℤ) → (ofZ w32 z ≡ 0 → ⊥) → isNonzero z ≡ t
 nonzero-bits (pos zero) h = absurd (h refl)
 nonzero-bits (pos (suc n)) h = refl
 nonzero-bits (negsuc n) h = refl
-
-pub nonzero-value : (z : ℤ) → isNonzero z ≡ true → 0 < natAbs z
-nonzero-value (pos zero) h = absurd (false≢true h)
-nonzero-value (pos (suc n)) h = omega arith
-nonzero-value (negsuc n) h = omega arith

@@ -1,6 +1,6 @@
--- The index of a point by its parts, as the code sums it up: no sum on the way is larger than the index, which is below N and so below 2^32.
+-- The index of a point by its weight, as the code sums it up: no sum on the way is larger than the index, which is below N and so below 2^32.
 -- Assumes nothing.
-use Prim.Native.Nat.{ℕ, zero, suc, _+_, _*_, _^_, _≤_, _<_}
+use Prim.Native.Nat.{ℕ, zero, suc, _+_, _-_, _*_, _^_, _≤_, _<_}
 use mathlib.Core.Path.{_≡_, refl, sym, _∙_}
 use mathlib.Core.List.{List}
 use native.Mathlib.Omega.{arith}
@@ -13,12 +13,16 @@ use Rattle.enumeration.specs.Product.{shapeIndex, weigh, productIndex}
 use Rattle.enumeration.proofs.Parts.{shape-part, nonzeros-part}
 use Rattle.enumeration.proofs.Product.{B-positive, index-below, zero-index}
 use Rattle.tables.specs.Usable.{IsUsable}
-use Rattle.product.specs.declared.inner.parts.Parts.{Parts}
-use Rattle.product.specs.Parts.{partsOf, weighed, Weighable}
+use Rattle.product.specs.declared.inner.weigh.Weight.{Weight}
+use Rattle.product.specs.Weights.{shapesAfter, weightOf, weighed, Weighable}
+use Rattle.product.proofs.After.{shape-and-after}
 
-index-weighed : (l k : ℕ) (x : List ℤ) → OnShell l k x → weighed l k (partsOf x) ≡ productIndex x
+shape-back : (x : List ℤ) → S (nonzerosIn x) (radiusOf x) - 1 - shapesAfter (shapeIn x) ≡ shapeIndex (shapeIn x)
+shape-back x = omega (arith, shape-and-after x)
+
+index-weighed : (l k : ℕ) (x : List ℤ) → OnShell l k x → weighed l k (weightOf x) ≡ productIndex x
 unfolding productIndex
-index-weighed l k x on = rw (on .of-length, on .of-radius)
+index-weighed l k x on = rw (← on .of-length, ← on .of-radius, shape-back x)
 
 -- a point with no nonzero coordinate is that of radius 0, with index 0
 no-weight : (l k : ℕ) (x : List ℤ) → OnShell l k x → nonzerosIn x ≡ 0 → 0 ≡ productIndex x
@@ -36,21 +40,29 @@ no-weight l k x on e = go (radiusOf x) refl
 no-less : (n b : ℕ) → 0 < b → n ≤ n * b
 no-less n b h = rw mul-one at (mul-le-mul-left n h)
 
-block-within : (l k : ℕ) (q : Parts) → q .pattern * S (q .s) k + q .shape ≤ weighed l k q
+block-within : (l k : ℕ) (w : Weight) → w .pattern * S (w .s) k + (S (w .s) k - 1 - w .after) ≤ weighed l k w
 unfolding weigh
-block-within l k q = omega (arith, no-less (q .pattern * S (q .s) k + q .shape) (B (q .s)) (B-positive (q .s)))
+block-within l k w = omega (arith, no-less (w .pattern * S (w .s) k + (S (w .s) k - 1 - w .after)) (B (w .s)) (B-positive (w .s)))
 
-pub weighable : (l k : ℕ) (x : List ℤ) → IsUsable l k → OnShell l k x → Weighable l k (partsOf x) × (weighed l k (partsOf x) ≡ productIndex x)
+after-below : (l k : ℕ) (x : List ℤ) → OnShell l k x → shapesAfter (shapeIn x) < S (nonzerosIn x) k
+after-below l k x on = rw (← on .of-radius) (omega (arith, shape-and-after x))
+
+pub weighable : (l k : ℕ) (x : List ℤ) → IsUsable l k → OnShell l k x → Weighable l k (weightOf x) × (weighed l k (weightOf x) ≡ productIndex x)
+unfolding weigh
 weighable l k x u on =
     let most-s = nonzeros-part x in
     let whole = index-weighed l k x on in
-    let small : productIndex x ≤ 2 ^ 32 = omega (arith, index-below l k x on, u .points-to) in (
+    let to-limit : weighed l k (weightOf x) ≤ 2 ^ 32 = omega (arith, index-below l k x on, u .points-to) in (
       record {
         s-to-length = omega (arith, on .of-length);
         s-to-radius = omega (arith, on .of-radius);
         none = λ e. no-weight l k x on e ∙ sym whole;
-        block-to = omega (arith, block-within l k (partsOf x));
-        index-to = omega arith;
+        sums =
+            record {
+              after-below = after-below l k x on;
+              block-to = omega (arith, block-within l k (weightOf x));
+              index-to = to-limit;
+            };
       },
       whole,
     )

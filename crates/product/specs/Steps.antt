@@ -1,11 +1,16 @@
 -- The coordinate that is taken from the parts of a point, where it is nonzero, and the parts that are left. Assumes nothing.
 use Prim.Native.Nat.{ℕ, suc, _-_, _≤_, _<_}
+use mathlib.Core.Path.{_≡_}
 use lib.Dec.{eqb}
 use Rattle.counts.specs.Counts.{S}
 use Rattle.enumeration.specs.Point.{signed}
 use Rattle.enumeration.specs.Reading.{bit, firstMagnitude, shapeLeft}
 use Rattle.product.specs.declared.inner.parts.Parts.{Parts}
 use Rattle.product.specs.declared.inner.read.Step.{Step}
+
+-- the first of s+1 magnitudes that sum to k, of the n-th shape, and the number of the shape that is left
+abbrev pub IsFirstOf : (s k n magnitude left : ℕ) → Type 0
+IsFirstOf s k n magnitude left = (magnitude ≡ firstMagnitude s k n) × (left ≡ shapeLeft s k n) × (magnitude ≤ k)
 
 -- the first coordinate and the rest; the d patterns that begin with a zero come before
 abbrev pub taken : Parts → ℕ → Step

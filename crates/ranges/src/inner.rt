@@ -62,12 +62,23 @@ pub fn most(length: Length, radius: Radius) -> usize
     }
 }
 
-// The pattern count D(s,l).
+// The stored binomial. Modulo 512, which changes none of the numbers, lets the compiler see that the last arm of the table is not taken.
+fn binomial(n: usize, r: usize) -> u32
+    requires { ⌜ (n < 32) × (r < 16) ⌝ }
+    ensures { λ b. ⌜ b ≡ counted.binomial n r ⌝ }
+{
+    binomials::inner::entry((n * 16 + r) % 512)
+}
+
+// The pattern count D(s,l). Those of s = 16, which are not stored, are 1 for length 16 and 0 for the others.
 pub fn pattern_count(s: usize, length: Length) -> u32
     requires { ⌜ (s ≤ 16) × (length .0 ≤ 16) ⌝ }
     ensures { λ r. ⌜ r ≡ D s (length .0) ⌝ }
 {
-    patterns::inner::entry(length.0 * 17 + s)
+    if s == 16 {
+        return (length.0 / 16) as u32;
+    }
+    binomial(length.0, s)
 }
 
 // The shape count S(s,k).
@@ -75,7 +86,7 @@ pub fn shape_count(s: usize, radius: Radius) -> u32
     requires { ⌜ (0 < s) × (s ≤ 16) × (0 < radius .0) × (radius .0 ≤ 32) ⌝ }
     ensures { λ r. ⌜ r ≡ S s (radius .0) ⌝ }
 {
-    shapes::inner::entry((radius.0 - 1) * 16 + (s - 1))
+    binomial(radius.0 - 1, s - 1)
 }
 
 // The size R of the range for s: the points of the shell with s nonzero coordinates.
@@ -100,13 +111,18 @@ pub fn range_start(s: usize, length: Length, radius: Radius) -> u64
     start
 }
 
-// N(l,k) by its ranges (eq. 14). Radius 0 stands apart.
+// N(l,k) from where its last range ends. Radius 0 has no range from 1 on, and the one point; the length is what the contract speaks of.
+pub fn total(length: Length, radius: Radius, end: u64) -> u64
+    requires { ⌜ end ≡ O 0 (length .0) (radius .0) ⌝ }
+    ensures { λ r. ⌜ r ≡ N (length .0) (radius .0) ⌝ }
+{
+    if radius.0 == 0 { 1 } else { end }
+}
+
+// N(l,k) by its ranges (eq. 14).
 pub fn point_count(length: Length, radius: Radius) -> u64
     requires { ⌜ IsUsable (length .0) (radius .0) ⌝ }
     ensures { λ r. ⌜ r ≡ N (length .0) (radius .0) ⌝ }
 {
-    if radius.0 == 0 {
-        return 1;
-    }
-    range_start(0, length, radius)
+    total(length, radius, range_start(0, length, radius))
 }

@@ -1,8 +1,10 @@
 // The answer of a cell, in a row of a good table.
 use counts::Length;
 use counts::Radius;
-use ranges::inner::point_count;
+use product::inner::range::holds;
+use product::inner::range::locate;
 use ranges::inner::power;
+use ranges::inner::total;
 use records::inner::codeword_in;
 use records::inner::number_in;
 use records::inner::row_in;
@@ -10,6 +12,7 @@ use rows::inner::row;
 use rules::Judged;
 use shell::width;
 ghost use mathlib.Core.Path.{_≡_};
+ghost use Prim.Native.Nat.{_^_, _≤_, _<_};
 ghost use lib.ListN.{length};
 ghost use Rattle.counts.specs.Counts.{N};
 ghost use Rattle.enumeration.proofs.Product.{product};
@@ -19,18 +22,11 @@ ghost use Rattle.rules.specs.Judging as rules;
 ghost use Rattle.rules.specs.Judging.{judgeCodeword, judgeRecord};
 ghost use Rattle.cells.specs.Bounds.{InTable};
 
-// A codeword of a shell. Below N it is below 2^b too.
-fn judge_codeword(length: Length, radius: Radius, n: u64) -> Judged
-    requires { ⌜ IsUsable (length .0) (radius .0) ⌝ }
-    ensures { λ r. ⌜ r ≡ judgeCodeword (N (length .0) (radius .0)) (radius .0) n ⌝ }
+// A codeword from the total on: past the width, or mended.
+fn judge_past(total: u64, radius: Radius, n: u64) -> Judged
+    requires { ⌜ (0 < total) × (total ≤ 2 ^ 32) × (total ≤ n) ⌝ }
+    ensures { λ r. ⌜ r ≡ judgeCodeword total (radius .0) n ⌝ }
 {
-    let total = point_count(length, radius);
-    if n < total {
-        return Judged::Sound {
-            radius: radius.0,
-            index: n,
-        };
-    }
     let b = width(total) as usize;
     if power(b) <= n {
         return Judged::Unreadable { reason: 14 };
@@ -39,6 +35,21 @@ fn judge_codeword(length: Length, radius: Radius, n: u64) -> Judged
         radius: radius.0,
         index: n - power(b - 1),
     }
+}
+
+// A codeword of a shell. Below N it is below 2^b too; where no range holds it, the last one ends at N.
+fn judge_codeword(length: Length, radius: Radius, n: u64) -> Judged
+    requires { ⌜ IsUsable (length .0) (radius .0) ⌝ }
+    ensures { λ r. ⌜ r ≡ judgeCodeword (N (length .0) (radius .0)) (radius .0) n ⌝ }
+{
+    let range = locate(length, radius, n);
+    if holds(range, length, radius, n) {
+        return Judged::Sound {
+            radius: radius.0,
+            index: n,
+        };
+    }
+    judge_past(total(length, radius, range.start), radius, n)
 }
 
 // A held record.

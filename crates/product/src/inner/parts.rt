@@ -1,5 +1,5 @@
-// The parts of a point: the number s of nonzero coordinates, their sum k, and the pattern, shape and sign index. Where a point is written,
-// the signs are the low s bits of `sign`, and what stands above them is not looked at.
+// The parts that a point is written from: the number s of nonzero coordinates, their sum k, the pattern index, the shape index, and the signs, which are
+// the low s bits of `sign`; what stands above them is not looked at.
 pub struct Parts {
     pub s: usize,
     pub k: usize,

@@ -12,9 +12,9 @@ ghost use mathlib.Core.List.{_∷_};
 ghost use Prim.Native.Nat.{suc, _≤_, _<_};
 ghost use lib.ListN as listed;
 ghost use Rattle.counts.specs.Counts.{S};
-ghost use Rattle.enumeration.specs.Reading.{firstMagnitude, shapeLeft, productPoint};
+ghost use Rattle.enumeration.specs.Reading.{productPoint};
 ghost use Rattle.product.specs.Parts.{IsIndexOf, Writable, writtenFrom};
-ghost use Rattle.product.specs.Steps.{Nonzero, taken};
+ghost use Rattle.product.specs.Steps.{IsFirstOf, Nonzero, taken};
 
 // The first magnitude of a shape, and the number of the shape that is left.
 struct First {
@@ -22,19 +22,13 @@ struct First {
     left: u32,
 }
 
-// The first of s+1 magnitudes that sum to the radius, of the shape of this number. S(s,k-1) shapes begin with 1, and as many as S(s,k-i)
-// with i.
-fn first_magnitude(s: usize, radius: Radius, shape: u32) -> First
-    requires { ⌜ (s < 16) × (radius .0 ≤ 32) × (shape < S (suc s) (radius .0)) ⌝ }
-    ensures { λ r. ⌜ (r .magnitude ≡ firstMagnitude s (radius .0) shape) × (r .left ≡ shapeLeft s (radius .0) shape) × (r .magnitude ≤ radius .0) ⌝ }
+// The first of s+1 magnitudes that sum to the radius, of the shape of this number, where there are others. S(s,k-1) shapes begin with 1, and as many
+// as S(s,k-i) with i.
+fn search_magnitude(s: usize, radius: Radius, shape: u32) -> First
+    requires { ⌜ (0 < s) × (s < 16) × (radius .0 ≤ 32) × (shape < S (suc s) (radius .0)) ⌝ }
+    ensures { λ r. ⌜ IsFirstOf s (radius .0) shape (r .magnitude) (r .left) ⌝ }
 {
     let sum = radius.0;
-    if s == 0 {
-        return First {
-            magnitude: sum,
-            left: 0,
-        };
-    }
     let mut k = sum - 1;
     let mut left = shape;
     let mut begin = shape_count(s, Radius(k));
@@ -47,6 +41,26 @@ fn first_magnitude(s: usize, radius: Radius, shape: u32) -> First
         magnitude: sum - k,
         left,
     }
+}
+
+// The same for any number of others. The last magnitude is all that is left; where there is one after it, one shape begins with each magnitude.
+fn first_magnitude(s: usize, radius: Radius, shape: u32) -> First
+    requires { ⌜ (s < 16) × (radius .0 ≤ 32) × (shape < S (suc s) (radius .0)) ⌝ }
+    ensures { λ r. ⌜ IsFirstOf s (radius .0) shape (r .magnitude) (r .left) ⌝ }
+{
+    if s == 0 {
+        return First {
+            magnitude: radius.0,
+            left: 0,
+        };
+    }
+    if s == 1 {
+        return First {
+            magnitude: shape as usize + 1,
+            left: 0,
+        };
+    }
+    search_magnitude(s, radius, shape)
 }
 
 // A coordinate, and the parts of what is left to write.

@@ -16,6 +16,18 @@ pub fn write_byte(byte: u8, at: usize, out: &mut [u8]) -> usize
 }
 
 // The decimal digits of a number: those of the tenth, and the last.
+fn write_digits(n: u64, at: usize, out: &mut [u8]) -> usize
+    requires { ⌜ at + 20 ≤ length (now out) ⌝ }
+    ensures { λ r. ⌜ Wrote (now (out .entry)) at (decimal n) 20 r (now (out .exit)) ⌝ }
+{
+    if n < 10 {
+        return write_byte(48 + n as u8, at, out);
+    }
+    let last = write_digits(n / 10, at, out);
+    write_byte(48 + (n % 10) as u8, last, out)
+}
+
+// The same; the one digit that most coordinates have takes no call.
 pub fn write_decimal(n: u64, at: usize, out: &mut [u8]) -> usize
     requires { ⌜ at + 20 ≤ length (now out) ⌝ }
     ensures { λ r. ⌜ Wrote (now (out .entry)) at (decimal n) 20 r (now (out .exit)) ⌝ }
@@ -23,8 +35,7 @@ pub fn write_decimal(n: u64, at: usize, out: &mut [u8]) -> usize
     if n < 10 {
         return write_byte(48 + n as u8, at, out);
     }
-    let last = write_decimal(n / 10, at, out);
-    write_byte(48 + (n % 10) as u8, last, out)
+    write_digits(n, at, out)
 }
 
 // A space and a decimal number.

@@ -1,111 +1,52 @@
--- `cells::inner::judging::judge_codeword` judges a codeword: below N it is sound, from 2^b on past the width, and between the two mended. Assumes nothing.
-use Prim.Native.Nat.{ℕ, _-_, _^_, _≤_, _<_}
-use mathlib.Core.Path.{_≡_, ap, _∙_}
-use native.Mathlib.Omega.{arith}
+-- `cells::inner::judging::judge_codeword` judges a codeword: one that a range holds is below N and sound; where none holds it, the ranges end at N,
+-- which is at most the codeword. Assumes nothing.
+use Prim.Native.Nat.{_≤_}
+use mathlib.Core.Path.{ap, sym, _∙_}
 use borrow.Author.Needs.{needs}
-use Rattle.counts.specs.Counts.{N}
-use Rattle.counts.specs.Width.{width}
+use borrow.Author.Tests.{ltb-true, ltb-false}
+use Rattle.counts.specs.Counts.{N, O}
 use Rattle.enumeration.proofs.Product.{product}
+use Rattle.enumeration.proofs.RangeOf.{none-above}
 use Rattle.rules.proofs.Shows.{total-positive}
-use Rattle.cells.proofs.Judging.{width-to, codeword-sound, codeword-past, width-from, half-to, codeword-mended}
+use Rattle.rules.specs.Judging.{judgeCodeword}
+use Rattle.cells.proofs.Judging.{codeword-sound}
 use Rattle.cells.proofs.inner.judging.judge_codeword.Statement.{statement}
 use Rattle.cells.proofs.inner.judging.judge_codeword.Tie as tie
 
 returns : tie.Need-returns
 returns c =
-    let a = c .before .before in
-    let l = a .args .length .0 in
-    let k = a .args .radius .0 in
-    let n = a .args .n in
-    let is-total = c .before .point-count .ensures in
-    codeword-sound (N l k) k n (omega arith)
+    let a = c .before .before .before .args in
+    codeword-sound (N (a .length .0) (a .radius .0)) (a .radius .0) (a .n)
+    (ltb-true (a .n) (N (a .length .0) (a .radius .0)) (sym (c .before .holds .ensures) ∙ c .if1 .taken))
 
-power-requires : tie.Need-power-requires
-power-requires c κs =
-    let a = c .before .before .before in
-    let l = a .args .length .0 in
-    let k = a .args .radius .0 in
-    let n = a .args .n in
-    let is-total = c .before .before .point-count .ensures in
-    let is-width : c .width .result ≡ width (N l k) = c .width .ensures ∙ ap width is-total in
-    omega (arith, width-to (N l k) (a .pre .points-to))
+total-requires : tie.Need-total-requires
+total-requires c κs =
+    let a = c .before .before .before .args in
+    let range = c .before .before .locate .ensures in
+    let above : N (a .length .0) (a .radius .0) ≤ a .n =
+    ltb-false (a .n) (N (a .length .0) (a .radius .0)) (sym (c .before .holds .ensures) ∙ c .if1 .left) in
+    range .1 ∙ ap (λ s. O s (a .length .0) (a .radius .0)) (range .0 ∙ none-above (a .length .0) (a .radius .0) (a .n) above)
+
+judge-past-requires : tie.Need-judge-past-requires
+judge-past-requires c κs =
+    let st = c .before .before .before .before in
+    let a = st .args in
+    let above : N (a .length .0) (a .radius .0) ≤ a .n =
+    ltb-false (a .n) (N (a .length .0) (a .radius .0)) (sym (c .before .before .holds .ensures) ∙ c .before .if1 .left) in
+    rw (c .total .ensures) (total-positive product (a .length .0) (a .radius .0) (st .pre .length-from), st .pre .points-to, above)
 
 returns-2 : tie.Need-returns-2
 returns-2 c =
-    let a = c .before .before .before .before .before in
-    let l = a .args .length .0 in
-    let k = a .args .radius .0 in
-    let n = a .args .n in
-    let is-total = c .before .before .before .before .point-count .ensures in
-    let is-width : c .before .before .width .result ≡ width (N l k) = c .before .before .width .ensures ∙ ap width is-total in
-    let is-power : c .before .power .result ≡ 2 ^ width (N l k) = c .before .power .ensures ∙ ap (λ (b : ℕ). 2 ^ b) is-width in
-    codeword-past (N l k) k n (omega arith)
-
-sub-power : tie.Need-sub-power
-sub-power c =
-    let a = c .before .before .before .before .before in
-    let l = a .args .length .0 in
-    let k = a .args .radius .0 in
-    let n = a .args .n in
-    let is-total = c .before .before .before .before .point-count .ensures in
-    let is-width : c .before .before .width .result ≡ width (N l k) = c .before .before .width .ensures ∙ ap width is-total in
-    let is-power : c .before .power .result ≡ 2 ^ width (N l k) = c .before .power .ensures ∙ ap (λ (b : ℕ). 2 ^ b) is-width in
-    let inside : n < 2 ^ width (N l k) = omega arith in
-    let above : N l k ≤ n = omega arith in
-    let some = total-positive product l k (a .pre .length-from) in
-    omega (arith, width-from (N l k) k n some inside above)
-
-power-requires-2 : tie.Need-power-requires-2
-power-requires-2 c κs =
-    let a = c .before .before .before .before .before in
-    let l = a .args .length .0 in
-    let k = a .args .radius .0 in
-    let n = a .args .n in
-    let is-total = c .before .before .before .before .point-count .ensures in
-    let is-width : c .before .before .width .result ≡ width (N l k) = c .before .before .width .ensures ∙ ap width is-total in
-    omega (arith, width-to (N l k) (a .pre .points-to))
-
-sub-t10 : tie.Need-sub-t10
-sub-t10 c =
-    let a = c .before .before .before .before .before .before in
-    let l = a .args .length .0 in
-    let k = a .args .radius .0 in
-    let n = a .args .n in
-    let is-total = c .before .before .before .before .before .point-count .ensures in
-    let is-width : c .before .before .before .width .result ≡ width (N l k) = c .before .before .before .width .ensures ∙ ap width is-total in
-    let is-power : c .before .before .power .result ≡ 2 ^ width (N l k) = c .before .before .power .ensures ∙ ap (λ (b : ℕ). 2 ^ b) is-width in
-    let inside : n < 2 ^ width (N l k) = omega arith in
-    let above : N l k ≤ n = omega arith in
-    let some = total-positive product l k (a .pre .length-from) in
-    let is-half : c .power2 .result ≡ 2 ^ (width (N l k) - 1) = c .power2 .ensures ∙ ap (λ (b : ℕ). 2 ^ (b - 1)) is-width in
-    omega (arith, half-to (N l k) k n some inside above)
-
-returns-3 : tie.Need-returns-3
-returns-3 c =
-    let a = c .before .before .before .before .before .before in
-    let l = a .args .length .0 in
-    let k = a .args .radius .0 in
-    let n = a .args .n in
-    let is-total = c .before .before .before .before .before .point-count .ensures in
-    let is-width : c .before .before .before .width .result ≡ width (N l k) = c .before .before .before .width .ensures ∙ ap width is-total in
-    let is-power : c .before .before .power .result ≡ 2 ^ width (N l k) = c .before .before .power .ensures ∙ ap (λ (b : ℕ). 2 ^ b) is-width in
-    let inside : n < 2 ^ width (N l k) = omega arith in
-    let above : N l k ≤ n = omega arith in
-    let some = total-positive product l k (a .pre .length-from) in
-    let is-half : c .power2 .result ≡ 2 ^ (width (N l k) - 1) = c .power2 .ensures ∙ ap (λ (b : ℕ). 2 ^ (b - 1)) is-width in
-    rw is-half (codeword-mended (N l k) k n some inside above)
+    let a = c .before .before .before .before .before .args in
+    c .judge-past .ensures ∙ ap (λ n. judgeCodeword n (a .radius .0) (a .n)) (c .before .total .ensures)
 
 pub judge-codeword-spec : {M : Type 1} → statement M
 judge-codeword-spec =
     tie.close
     (tie.spec
     (λ c κs. search needs)
-    returns
     (λ c κs. search needs)
-    (λ c. search needs)
-    power-requires
-    returns-2
-    sub-power
-    power-requires-2
-    sub-t10
-    returns-3)
+    returns
+    total-requires
+    judge-past-requires
+    returns-2)

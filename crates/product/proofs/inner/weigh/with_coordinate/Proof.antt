@@ -1,4 +1,4 @@
--- `product::inner::weigh::with_coordinate` gives the parts of what stands from `at` on: a zero adds nothing, and another coordinate adds what its
+-- `product::inner::weigh::with_coordinate` gives the weight of what stands from `at` on: a zero adds nothing, and another coordinate adds what its
 -- magnitude and its sign say. Assumes nothing.
 use borrow.Author.Needs.{needs, sfits-of}
 use Prim.Native.Nat.{ℕ, _-_}
@@ -9,18 +9,18 @@ use lib.ListN.{length, drop, getD}
 use lib.Signed.{ltZ}
 use mir.Syntax.{w32}
 use mir.Val.{SFits, toZ, ofZ}
-use Rattle.product.specs.declared.inner.parts.Parts.{Parts}
-use Rattle.product.specs.Parts.{partsOf, grown, Room}
+use Rattle.product.specs.declared.inner.weigh.Weight.{Weight}
+use Rattle.product.specs.Weights.{weightOf, grown, Room}
 use Rattle.product.proofs.Coordinates.{kept, zero-bits, nonzero-bits, negative-is}
-use Rattle.product.proofs.Growth.{Behind, with-zero, with-nonzero}
+use Rattle.product.proofs.Growth.{Added, with-zero, with-nonzero}
 use Rattle.product.proofs.inner.weigh.with_coordinate.Statement.{statement}
 use Rattle.product.proofs.inner.weigh.with_coordinate.Tie as tie
 
 -- a nonzero coordinate, as the code reads its bits
-read-nonzero : (behind : Parts) (x : List ℤ) (at m : ℕ) → Behind behind x at → SFits w32 (getD x at (pos 0)) → (ofZ w32 (getD x at (pos 0)) ≡ 0 → ⊥)
+read-nonzero : (behind : Weight) (x : List ℤ) (at m : ℕ) → Added behind x at → SFits w32 (getD x at (pos 0)) → (ofZ w32 (getD x at (pos 0)) ≡ 0 → ⊥)
     → m ≡ natAbs (toZ w32 (ofZ w32 (getD x at (pos 0))))
     → Room behind m (ltZ (toZ w32 (ofZ w32 (getD x at (pos 0)))) (pos 0)) (length x - at - 1)
-    × (grown behind m (ltZ (toZ w32 (ofZ w32 (getD x at (pos 0)))) (pos 0)) (length x - at - 1) ≡ partsOf (drop at x))
+    × (grown behind m (ltZ (toZ w32 (ofZ w32 (getD x at (pos 0)))) (pos 0)) (length x - at - 1) ≡ weightOf (drop at x))
 read-nonzero behind x at m p f n e =
     let z = getD x at (pos 0) in
     with-nonzero behind x at p m (ltZ (toZ w32 (ofZ w32 z)) (pos 0)) (nonzero-bits z n) (e ∙ ap natAbs (kept z f))

@@ -1,0 +1,68 @@
+/* Ours and plain C are asked the same. A difference, in the answer or in what a call is lent, is an error; else the answer is returned,
+   of quantize, take and read the refusal number. */
+
+#include "bench.h"
+
+enum { ROOM = MOST_LENGTH + 1, GARBAGE = 0x5a }; /* the room for an output, or a record, that is too long */
+enum { ITEM_REFUSAL, ITEM_ANSWER, ITEM_REASON };
+
+static void hold(const char *call, uint64_t ours, uint64_t plain, int are_same)
+{
+    if (ours != plain || !are_same)
+        fail(call, "ours and plain C differ");
+}
+
+uint64_t agree_on_index(struct shell shell, const int32_t *point, uint64_t point_length)
+{
+    const uint64_t ours = probe_index(shell.length, shell.radius, point, point_length);
+    hold("index", ours, plain_index(shell.length, shell.radius, point, point_length), 1);
+    return ours;
+}
+
+uint32_t agree_on_point(struct shell shell, uint64_t index, uint64_t out_length)
+{
+    int32_t one[ROOM], other[ROOM];
+    __builtin_memset(one, GARBAGE, sizeof one);
+    __builtin_memset(other, GARBAGE, sizeof other);
+    const uint32_t ours = probe_point(shell.length, shell.radius, index, one, out_length);
+    hold("point", ours, plain_point(shell.length, shell.radius, index, other, out_length), memcmp(one, other, sizeof one) == 0);
+    return ours;
+}
+
+uint32_t agree_on_quantize(const struct table *table, const struct coefficients *in, uint64_t record_length)
+{
+    uint8_t one[ROOM], other[ROOM];
+    __builtin_memset(one, GARBAGE, sizeof one);
+    __builtin_memset(other, GARBAGE, sizeof other);
+    const uint32_t ours = probe_quantize(table->bytes, table->size, in->place, in->values, in->length, one, record_length);
+    const uint32_t plain = plain_quantize(table->bytes, table->size, in->place, in->values, in->length, other, record_length);
+    hold("quantize", ours, plain, memcmp(one, other, sizeof one) == 0);
+    return ours;
+}
+
+/* Each takes the record into its own page. */
+uint64_t agree_on_take(const struct table *table, uint8_t *page, uint8_t *page_of_plain, uint64_t size, const struct record *in)
+{
+    const uint64_t ours = probe_take(table->bytes, table->size, page, size, in->bytes, in->length, ITEM_REFUSAL);
+    const uint32_t plain = plain_take(table->bytes, table->size, page_of_plain, size, in->bytes, in->length);
+    hold("take", ours, plain, memcmp(page, page_of_plain, size) == 0);
+    return ours;
+}
+
+/* Of an answer the number and the reason are compared too. */
+uint64_t agree_on_read(const struct table *table, const uint8_t *page, uint64_t size, uint64_t place, uint64_t out_length)
+{
+    int32_t one[ROOM], other[ROOM];
+    uint64_t ours[ITEM_REASON + 1];
+    __builtin_memset(one, GARBAGE, sizeof one);
+    __builtin_memset(other, GARBAGE, sizeof other);
+    const struct plain_reading plain = plain_read(table->bytes, table->size, page, size, place, other, out_length);
+    for (uint64_t item = ITEM_REFUSAL; item <= ITEM_REASON; item++)
+        ours[item] = probe_read(table->bytes, table->size, page, size, place, one, out_length, item);
+    hold("read", ours[ITEM_REFUSAL], plain.refusal, memcmp(one, other, sizeof one) == 0);
+    if (plain.refusal == 0) {
+        hold("answer of read", ours[ITEM_ANSWER], plain.answer, 1);
+        hold("reason of read", ours[ITEM_REASON], plain.reason, 1);
+    }
+    return plain.refusal;
+}

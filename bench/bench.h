@@ -1,0 +1,117 @@
+/* The parts of the benchmark: the calls of tests/second/probe.h and the listing program, ours, against plain C of the same. */
+
+#ifndef BENCH_BENCH_H
+#define BENCH_BENCH_H
+
+#include "libc.h"
+#include "plain.h"
+
+enum {
+    INPUTS = 4096, /* of each workload, compared and timed: too many for the processor to know what comes next by heart */
+    COUNTED = 64,  /* those of them that are run step by step */
+    NAME = 80      /* the room for the name of a line */
+};
+
+/* A call, whatever its type; what runs it knows the type. */
+typedef void any_call(void);
+
+/* Runs a call once with each of the first inputs. */
+typedef void run_call(any_call *call, uint64_t inputs);
+
+/* A call that is measured, and an empty one that is run in the same way. */
+struct side {
+    run_call *run;
+    any_call *call;
+    any_call *empty;
+};
+
+/* A call as ours and as plain C. */
+struct rivals {
+    const char *what;
+    struct side ours;
+    struct side plain;
+};
+
+/* A vector that is quantized. */
+struct coefficients {
+    uint64_t place;
+    uint64_t length;
+    float values[MOST_LENGTH];
+};
+
+/* A record that arrives. */
+struct record {
+    uint64_t length;
+    uint8_t bytes[RECORD_SIZE];
+};
+
+struct figures {
+    double instructions; /* UNCOUNTED where no process can be stepped through */
+    double nanoseconds;
+};
+#define UNCOUNTED (-1.0)
+
+/* Two tables: one row, and 32. */
+struct setting {
+    const char *name;
+    struct table table;
+    uint64_t places;
+};
+
+/* tracing.c: how many instructions a process takes, counted one by one; UNCOUNTED where that is not possible */
+double steps_of_run(run_call *run, any_call *call, uint64_t inputs);
+double steps_of_program(char *const *words, const char *folder, const char *output);
+int start(char *const *words, const char *folder, const char *output, int is_traced);
+void wait_for(int process);
+
+/* measuring.c: a line of the table */
+double nanoseconds_now(void);
+void measure(struct rivals rivals);
+
+/* report.c: the tables as Markdown */
+void print_head(void);
+void print_figures(const char *what, struct figures ours, struct figures plain);
+void print_count(double count);
+void print_ratio(const char *what, const char *of, double ours, double other);
+void print_slow_lines(void);
+_Noreturn void fail(const char *what, const char *why);
+
+/* agreeing.c: one comparison each; their answer is returned */
+uint64_t agree_on_index(struct shell shell, const int32_t *point, uint64_t point_length);
+uint32_t agree_on_point(struct shell shell, uint64_t index, uint64_t out_length);
+uint32_t agree_on_quantize(const struct table *table, const struct coefficients *in, uint64_t record_length);
+uint64_t agree_on_take(const struct table *table, uint8_t *page, uint8_t *page_of_plain, uint64_t size, const struct record *in);
+uint64_t agree_on_read(const struct table *table, const uint8_t *page, uint64_t size, uint64_t place, uint64_t out_length);
+
+/* refusals.c: calls by chance, right and wrong */
+void compare_calls(void);
+
+/* empty.c: a call of each type that does nothing */
+uint64_t empty_index(uint64_t length, uint64_t radius, const int32_t *point, uint64_t point_length);
+uint32_t empty_point(uint64_t length, uint64_t radius, uint64_t index, int32_t *out, uint64_t out_length);
+uint32_t empty_quantize(const uint8_t *table, uint64_t table_length, uint64_t place, const float *coefficients,
+                        uint64_t coefficients_length, uint8_t *record, uint64_t record_length);
+uint32_t empty_take(const uint8_t *table, uint64_t table_length, uint8_t *page, uint64_t page_length, const uint8_t *record,
+                    uint64_t record_length);
+uint64_t empty_take_item(const uint8_t *table, uint64_t table_length, uint8_t *page, uint64_t page_length, const uint8_t *record,
+                         uint64_t record_length, uint64_t which);
+struct plain_reading empty_read(const uint8_t *table, uint64_t table_length, const uint8_t *page, uint64_t page_length, uint64_t place,
+                                int32_t *out, uint64_t out_length);
+uint64_t empty_read_item(const uint8_t *table, uint64_t table_length, const uint8_t *page, uint64_t page_length, uint64_t place,
+                         int32_t *out, uint64_t out_length, uint64_t which);
+
+/* settings.c: the two tables, and a record of chance for a place of one */
+enum { SETTINGS = 2 };
+extern struct setting settings[SETTINGS];
+void begin_settings(void);
+const uint8_t *row_for(const struct setting *setting, uint64_t place);
+void sound_record(const struct setting *setting, uint64_t place, uint8_t *record);
+
+/* The workloads, each in the file that its name says */
+void bench_points(void);
+void bench_vectors(const struct setting *with);
+void bench_takes(const struct setting *with);
+void bench_reads(const struct setting *with);
+void bench_programs(char **arguments);
+
+#endif

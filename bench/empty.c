@@ -1,0 +1,50 @@
+/* Calls that do nothing: what it takes to run them is no part of what a call takes. */
+
+#include "bench.h"
+
+uint64_t empty_index(uint64_t length, uint64_t radius, const int32_t *point, uint64_t point_length)
+{
+    (void)length, (void)radius, (void)point, (void)point_length;
+    return 0;
+}
+
+uint32_t empty_point(uint64_t length, uint64_t radius, uint64_t index, int32_t *out, uint64_t out_length)
+{
+    (void)length, (void)radius, (void)index, (void)out, (void)out_length;
+    return 0;
+}
+
+uint32_t empty_quantize(const uint8_t *table, uint64_t table_length, uint64_t place, const float *coefficients,
+                        uint64_t coefficients_length, uint8_t *record, uint64_t record_length)
+{
+    (void)table, (void)table_length, (void)place, (void)coefficients, (void)coefficients_length, (void)record, (void)record_length;
+    return 0;
+}
+
+uint32_t empty_take(const uint8_t *table, uint64_t table_length, uint8_t *page, uint64_t page_length, const uint8_t *record,
+                    uint64_t record_length)
+{
+    (void)table, (void)table_length, (void)page, (void)page_length, (void)record, (void)record_length;
+    return 0;
+}
+
+uint64_t empty_take_item(const uint8_t *table, uint64_t table_length, uint8_t *page, uint64_t page_length, const uint8_t *record,
+                         uint64_t record_length, uint64_t which)
+{
+    (void)table, (void)table_length, (void)page, (void)page_length, (void)record, (void)record_length, (void)which;
+    return 0;
+}
+
+struct plain_reading empty_read(const uint8_t *table, uint64_t table_length, const uint8_t *page, uint64_t page_length, uint64_t place,
+                                int32_t *out, uint64_t out_length)
+{
+    (void)table, (void)table_length, (void)page, (void)page_length, (void)place, (void)out, (void)out_length;
+    return (struct plain_reading){0};
+}
+
+uint64_t empty_read_item(const uint8_t *table, uint64_t table_length, const uint8_t *page, uint64_t page_length, uint64_t place,
+                         int32_t *out, uint64_t out_length, uint64_t which)
+{
+    (void)table, (void)table_length, (void)page, (void)page_length, (void)place, (void)out, (void)out_length, (void)which;
+    return 0;
+}

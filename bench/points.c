@@ -1,0 +1,60 @@
+/* The index of a point, and the point of an index: all points of a shell equally likely. */
+
+#include "bench.h"
+
+typedef uint64_t index_call(uint64_t length, uint64_t radius, const int32_t *point, uint64_t point_length);
+typedef uint32_t point_call(uint64_t length, uint64_t radius, uint64_t index, int32_t *out, uint64_t out_length);
+
+static struct shell shell; /* the one that is measured */
+static uint64_t indices[INPUTS];
+static int32_t points[INPUTS][MOST_LENGTH];
+
+static void run_index(any_call *call, uint64_t inputs)
+{
+    index_call *const index = (index_call *)call;
+    for (uint64_t i = 0; i < inputs; i++)
+        index(shell.length, shell.radius, points[i], shell.length);
+}
+
+static void run_point(any_call *call, uint64_t inputs)
+{
+    static int32_t out[MOST_LENGTH];
+    point_call *const point = (point_call *)call;
+    for (uint64_t i = 0; i < inputs; i++)
+        point(shell.length, shell.radius, indices[i], out, shell.length);
+}
+
+/* Any index below N, and its point, which must lead back. */
+static void draw(uint64_t i)
+{
+    indices[i] = chance_below(counts.points[shell.length][shell.radius]);
+    if (agree_on_point(shell, indices[i], shell.length) != 0)
+        fail("point", "refused");
+    plain_point(shell.length, shell.radius, indices[i], points[i], shell.length);
+    if (agree_on_index(shell, points[i], shell.length) != indices[i])
+        fail("index", "another than that of the point");
+}
+
+static void bench_shell(void)
+{
+    char what[NAME];
+    for (uint64_t i = 0; i < INPUTS; i++)
+        draw(i);
+    snprintf(what, sizeof what, "index, length %lu, radius %lu", shell.length, shell.radius);
+    measure((struct rivals){what,
+                            {run_index, (any_call *)probe_index, (any_call *)empty_index},
+                            {run_index, (any_call *)plain_index, (any_call *)empty_index}});
+    snprintf(what, sizeof what, "point, length %lu, radius %lu", shell.length, shell.radius);
+    measure((struct rivals){what,
+                            {run_point, (any_call *)probe_point, (any_call *)empty_point},
+                            {run_point, (any_call *)plain_point, (any_call *)empty_point}});
+}
+
+void bench_points(void)
+{
+    const struct shell shells[] = {{2, 32}, {3, 20}, {4, 16}, {4, 32}, {8, 8}, {8, 12}, {16, 4}, {16, 6}, {16, 12}};
+    for (uint64_t i = 0; i < ENTRIES(shells); i++) {
+        shell = shells[i];
+        bench_shell();
+    }
+}

@@ -1,0 +1,72 @@
+/* Reading: places by chance. Of 16 places one is missing, one contested and one unreadable, two are mended where a shell of the row
+   has a codeword past N, and the others are sound. */
+
+#include "bench.h"
+
+typedef struct plain_reading read_call(const uint8_t *table, uint64_t table_length, const uint8_t *page, uint64_t page_length,
+                                       uint64_t place, int32_t *out, uint64_t out_length);
+typedef uint64_t read_item_call(const uint8_t *table, uint64_t table_length, const uint8_t *page, uint64_t page_length, uint64_t place,
+                                int32_t *out, uint64_t out_length, uint64_t which);
+
+enum { KINDS = 16, ITEM_ANSWER = 1 };
+
+static const struct setting *setting; /* the one that is measured */
+static uint64_t places[INPUTS];
+static uint8_t page[MOST_PLACES * CELL_SIZE];
+
+static void run_read(any_call *call, uint64_t inputs)
+{
+    static int32_t out[MOST_LENGTH];
+    read_call *const read_it = (read_call *)call;
+    for (uint64_t i = 0; i < inputs; i++)
+        read_it(setting->table.bytes, setting->table.size, page, setting->places * CELL_SIZE, places[i], out,
+                row_for(setting, places[i])[AT_LENGTH]);
+}
+
+static void run_read_item(any_call *call, uint64_t inputs)
+{
+    static int32_t out[MOST_LENGTH];
+    read_item_call *const read_it = (read_item_call *)call;
+    for (uint64_t i = 0; i < inputs; i++)
+        read_it(setting->table.bytes, setting->table.size, page, setting->places * CELL_SIZE, places[i], out,
+                row_for(setting, places[i])[AT_LENGTH], ITEM_ANSWER);
+}
+
+/* The last codeword below 2^b, which is N or more but for shells of a power of two. */
+static void mend(const uint8_t *row, uint8_t *record)
+{
+    const uint64_t last = counts.powers[row[AT_LENGTH]][row[AT_RADII + record[AT_RADIUS_NUMBER]]] - 1;
+    set_two_bytes(record + AT_CODEWORD, last >> 16);
+    set_two_bytes(record + AT_CODEWORD + 2, last & 0xffff);
+}
+
+static void fill_cell(uint64_t place)
+{
+    const uint64_t kind = place % KINDS;
+    uint8_t *cell = page + place * CELL_SIZE;
+    __builtin_memset(cell, 0, CELL_SIZE);
+    cell[AT_STATE] = kind == 0 ? STATE_EMPTY : kind == 1 ? STATE_CONTESTED : STATE_HELD;
+    if (kind > 1)
+        sound_record(setting, place, cell + AT_RECORD);
+    if (kind == 2)
+        cell[AT_RECORD + AT_RADIUS_NUMBER] = MOST_RADII;
+    if (kind == 3 || kind == 4)
+        mend(row_for(setting, place), cell + AT_RECORD);
+}
+
+void bench_reads(const struct setting *with)
+{
+    char what[NAME];
+    setting = with;
+    for (uint64_t place = 0; place < setting->places; place++) {
+        fill_cell(place);
+        if (agree_on_read(&setting->table, page, setting->places * CELL_SIZE, place, row_for(setting, place)[AT_LENGTH]) != 0)
+            fail("read", "refused");
+    }
+    for (uint64_t i = 0; i < INPUTS; i++)
+        places[i] = chance_below(setting->places);
+    snprintf(what, sizeof what, "read, %s", setting->name);
+    measure((struct rivals){what,
+                            {run_read_item, (any_call *)probe_read, (any_call *)empty_read_item},
+                            {run_read, (any_call *)plain_read, (any_call *)empty_read}});
+}

@@ -1,0 +1,94 @@
+/* Calls by chance, many of them refused: plain C makes every check that ours makes, in the same order. */
+
+#include "bench.h"
+
+enum { CALLS = 20000 };
+
+/* A table and a place that a call is asked about. */
+struct asked {
+    struct table table;
+    uint64_t places; /* of a good table */
+    uint64_t place;
+    uint64_t length; /* of the row of the place, where there is one */
+};
+
+static uint8_t pages[2][CELL_SIZE * (MOST_PLACES + 1)];
+
+/* The right number, or one beside it. */
+static uint64_t beside(uint64_t right)
+{
+    return chance_below(8) ? right : right - 1 + chance_below(3);
+}
+
+/* A shell, usable or not, and a vector whose magnitudes often sum to its radius. */
+static void try_points(void)
+{
+    const struct shell shell = {chance_below(MOST_LENGTH + 2), chance_below(MOST_RADIUS + 2)};
+    const uint64_t n = shell.length <= MOST_LENGTH && shell.radius <= MOST_RADIUS ? counts.points[shell.length][shell.radius] : 0;
+    int32_t point[MOST_LENGTH + 2] = {0};
+    for (uint64_t left = beside(shell.radius); left > 0 && left <= MOST_RADIUS; left--)
+        point[chance_below(shell.length + 1)]++;
+    for (uint64_t i = 0; i < shell.length; i++)
+        point[i] = chance_below(2) ? -point[i] : point[i];
+    if (chance_below(16) == 0)
+        point[chance_below(shell.length + 1)] = INT32_MIN;
+    agree_on_index(shell, point, beside(shell.length));
+    agree_on_point(shell, chance_below(2) ? beside(n) : chance_below(n + 1), beside(shell.length));
+}
+
+static struct asked asked_by_chance(void)
+{
+    struct asked asked = {.table = chance_below(4) ? good_table_by_chance() : table_by_chance()};
+    const struct table *table = &asked.table;
+    asked.places = plain_survey(table->bytes, table->size, 0).places;
+    asked.place = beside(chance_below(asked.places + 1));
+    if (asked.place < asked.places)
+        asked.length = table->bytes[plain_survey(table->bytes, table->size, asked.place).row * ROW_SIZE + AT_LENGTH];
+    return asked;
+}
+
+/* Many in the middle of two whole numbers, some at the first unusable one. */
+static float coefficient_by_chance(void)
+{
+    const float sign = chance_below(2) ? -1 : 1;
+    const uint32_t bits = BITS_BELOW_32768 + (uint32_t)chance_below(2);
+    float edge;
+    __builtin_memcpy(&edge, &bits, sizeof bits);
+    return sign * (chance_below(64) ? (float)chance_below(4096) / 512 : edge);
+}
+
+static void try_vector(const struct asked *asked)
+{
+    struct coefficients in = {.place = asked->place, .length = beside(asked->length)};
+    for (int i = 0; i < MOST_LENGTH; i++)
+        in.values[i] = coefficient_by_chance();
+    agree_on_quantize(&asked->table, &in, beside(RECORD_SIZE));
+}
+
+/* A cell of any state, a record for it that is the one that it holds or another, and what is then read there. */
+static void try_cell(const struct asked *asked)
+{
+    const uint64_t size = beside(CELL_SIZE * (asked->places > 0 ? asked->places : 1));
+    struct record in = {.length = beside(RECORD_SIZE)};
+    set_two_bytes(in.bytes + AT_PLACE, asked->place & 0xffff);
+    if (asked->place < asked->places) {
+        uint8_t *cell = pages[0] + asked->place * CELL_SIZE;
+        cell[AT_STATE] = (uint8_t)chance_below(4);
+        write_record(cell + AT_RECORD, beside(asked->place) & 0xffff, chance_below(4), chance_below(4), chance_below(64));
+        __builtin_memcpy(in.bytes, cell + AT_RECORD, RECORD_SIZE);
+        __builtin_memcpy(pages[1] + asked->place * CELL_SIZE, cell, CELL_SIZE);
+    }
+    in.bytes[chance_below(RECORD_SIZE)] ^= (uint8_t)chance_below(2);
+    agree_on_take(&asked->table, pages[0], pages[1], size, &in);
+    agree_on_read(&asked->table, pages[0], size, asked->place, beside(asked->length));
+}
+
+void compare_calls(void)
+{
+    for (int i = 0; i < CALLS; i++) {
+        const struct asked asked = asked_by_chance();
+        try_points();
+        try_vector(&asked);
+        try_cell(&asked);
+    }
+}

@@ -1,0 +1,57 @@
+/* The two pairing tables that the calls are measured with: one of a row, and one of 32 rows of all lengths with 4,096 places. */
+
+#include "bench.h"
+
+enum { PLACES = 128, STEP = 64 }; /* of each row */
+
+struct setting settings[SETTINGS] = {{.name = "1 row"}, {.name = "32 rows"}};
+
+static void begin_row(uint8_t *row, uint64_t length, uint64_t number)
+{
+    row[AT_LENGTH] = (uint8_t)length;
+    row[AT_NUMBER_OF_RADII] = (uint8_t)number;
+    set_two_bytes(row + AT_STEP, STEP);
+    set_two_bytes(row + AT_PLACES, PLACES);
+}
+
+static void begin_one_row(struct setting *setting)
+{
+    const uint8_t radii[MOST_RADII] = {0, 1, 2, 4, 6, 8, 10, 12};
+    setting->table.size = ROW_SIZE;
+    setting->places = PLACES;
+    begin_row(setting->table.bytes, 8, MOST_RADII);
+    __builtin_memcpy(setting->table.bytes + AT_RADII, radii, sizeof radii);
+}
+
+/* Each length twice; 5 to 8 radii, evenly spread up to the largest usable one. */
+static void begin_rows(struct setting *setting)
+{
+    setting->table.size = ROW_SIZE * MOST_ROWS;
+    setting->places = PLACES * MOST_ROWS;
+    for (uint64_t number = 0; number < MOST_ROWS; number++) {
+        uint8_t *row = setting->table.bytes + number * ROW_SIZE;
+        const uint64_t length = 1 + number * 5 % MOST_LENGTH, radii = 5 + number % 4;
+        begin_row(row, length, radii);
+        for (uint64_t i = 0; i < radii; i++)
+            row[AT_RADII + i] = (uint8_t)(i * largest_radius(length) / (radii - 1));
+    }
+}
+
+void begin_settings(void)
+{
+    begin_one_row(&settings[0]);
+    begin_rows(&settings[1]);
+}
+
+const uint8_t *row_for(const struct setting *setting, uint64_t place)
+{
+    return setting->table.bytes + place / PLACES * ROW_SIZE;
+}
+
+/* Any radius of the row of the place, and any index below N. */
+void sound_record(const struct setting *setting, uint64_t place, uint8_t *record)
+{
+    const uint8_t *row = row_for(setting, place);
+    const uint64_t number = chance_below(row[AT_NUMBER_OF_RADII]), n = counts.points[row[AT_LENGTH]][row[AT_RADII + number]];
+    write_record(record, place, place / PLACES, number, chance_below(n));
+}

@@ -1,0 +1,77 @@
+/* Taking: records for a page that has heard of every place. Of 16 records 14 are for places by chance, of which every fourth is
+   contested and the others hold this very record; one is for no place of the table, and one is a byte short. So each take leaves the
+   page as it is, however often it is run. That a place is held or contested comes about before, and is compared. */
+
+#include "bench.h"
+
+typedef uint32_t take_call(const uint8_t *table, uint64_t table_length, uint8_t *page, uint64_t page_length, const uint8_t *record,
+                           uint64_t record_length);
+typedef uint64_t take_item_call(const uint8_t *table, uint64_t table_length, uint8_t *page, uint64_t page_length, const uint8_t *record,
+                                uint64_t record_length, uint64_t which);
+
+enum { KINDS = 16, CONTESTED_IN = 4 };
+
+static const struct setting *setting; /* the one that is measured */
+static struct record arrivals[INPUTS];
+static struct record first[MOST_PLACES];          /* the first that comes for each place */
+static uint8_t pages[2][MOST_PLACES * CELL_SIZE]; /* ours, and that of plain C */
+
+static void run_take(any_call *call, uint64_t inputs)
+{
+    take_call *const take_it = (take_call *)call;
+    for (const struct record *in = arrivals; in < arrivals + inputs; in++)
+        take_it(setting->table.bytes, setting->table.size, pages[1], setting->places * CELL_SIZE, in->bytes, in->length);
+}
+
+static void run_take_item(any_call *call, uint64_t inputs)
+{
+    take_item_call *const take_it = (take_item_call *)call;
+    for (const struct record *in = arrivals; in < arrivals + inputs; in++)
+        take_it(setting->table.bytes, setting->table.size, pages[0], setting->places * CELL_SIZE, in->bytes, in->length, 0);
+}
+
+static uint64_t agree(const struct record *in)
+{
+    return agree_on_take(&setting->table, pages[0], pages[1], setting->places * CELL_SIZE, in);
+}
+
+/* The first record for each place; then another one where the place is to be contested. */
+static void fill_pages(void)
+{
+    __builtin_memset(pages, 0, sizeof pages);
+    for (uint64_t place = 0; place < setting->places; place++) {
+        first[place].length = RECORD_SIZE;
+        sound_record(setting, place, first[place].bytes);
+        struct record other = first[place];
+        other.bytes[AT_CODEWORD]++;
+        if (agree(&first[place]) != 0 || (place % CONTESTED_IN == 0 && agree(&other) != 0))
+            fail("take", "refused");
+    }
+}
+
+static struct record record_of_kind(uint64_t kind)
+{
+    struct record in = first[chance_below(setting->places)];
+    if (kind == 0)
+        set_two_bytes(in.bytes + AT_PLACE, setting->places + chance_below(MOST_PLACES));
+    if (kind == 1)
+        in.length = RECORD_SIZE - 1;
+    return in;
+}
+
+void bench_takes(const struct setting *with)
+{
+    char what[NAME];
+    setting = with;
+    fill_pages();
+    for (uint64_t i = 0; i < INPUTS; i++) {
+        const uint64_t kind = i % KINDS;
+        arrivals[i] = record_of_kind(kind);
+        if ((agree(&arrivals[i]) != 0) != (kind < 2))
+            fail("take", "refused or not, as was not meant");
+    }
+    snprintf(what, sizeof what, "take, %s", setting->name);
+    measure((struct rivals){what,
+                            {run_take_item, (any_call *)probe_take, (any_call *)empty_take_item},
+                            {run_take, (any_call *)plain_take, (any_call *)empty_take}});
+}

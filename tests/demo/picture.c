@@ -1,0 +1,68 @@
+/* The picture of the demo, a part of a page of a graded reader: two characters with their readings above them. A plain band split stands
+   here for the editor's own: sums and differences of 2 x 2 pixels, all of them exact in f32. */
+
+#include "demo.h"
+
+static const char *const picture[LINES] = {
+    ".#.#....#....#..#...#...",
+    ".####.#####.####.#.##.#.",
+    "##..#...#....#.#.#..##.#",
+    ".#.#..#####..#.#...##..#",
+    "..#...#.#...#..#..#.#..#",
+    "..#....#.##.#.##....#.#.",
+    "........................",
+    ".....#.......#.........#",
+    ".....#.......#....#....#",
+    ".....#.......#....#....#",
+    "#....#....#..#....#....#",
+    "#....#....#..#....#....#",
+    "#....#....#..#....#....#",
+    "#....#....#..#....#....#",
+    "#....#....#..#.........#",
+    "###########.#..........#",
+};
+
+/* Band 0 is the sum of the 2 x 2 pixels. Band 1 takes off the right ones, band 2 the lower ones, band 3 those that are one of both. */
+static float sign(uint64_t band, uint64_t column, uint64_t line)
+{
+    return (band % 2 * column + band / 2 * line) % 2 == 0 ? 1 : -1;
+}
+
+/* Ink is 1, paper 0. */
+void split(struct bands *to)
+{
+    *to = (struct bands){0};
+    for (uint64_t band = 0; band < BANDS; band++)
+        for (uint64_t line = 0; line < LINES; line++)
+            for (uint64_t column = 0; column < COLUMNS; column++)
+                to->at[band][line / 2][column / 2] += picture[line][column] == '#' ? sign(band, column, line) : 0;
+}
+
+/* The four bands together are four times the pixel: # where that is more ink than paper, + where it is half of each. */
+static char shown(const struct bands *received, uint64_t column, uint64_t line)
+{
+    float pixels = 0;
+    for (uint64_t band = 0; band < BANDS; band++)
+        pixels += sign(band, column, line) * received->at[band][line / 2][column / 2];
+    return pixels > 2 ? '#' : pixels < 2 ? '.' : '+';
+}
+
+uint64_t pixels_not_as_sent(const struct bands *received)
+{
+    uint64_t others = 0;
+    for (uint64_t line = 0; line < LINES; line++)
+        for (uint64_t column = 0; column < COLUMNS; column++)
+            others += shown(received, column, line) != picture[line][column];
+    return others;
+}
+
+/* The picture that was sent, and beside it what a slate shows. */
+void print_pictures(const struct bands *received)
+{
+    for (uint64_t line = 0; line < LINES; line++) {
+        printf("%s    ", picture[line]);
+        for (uint64_t column = 0; column < COLUMNS; column++)
+            printf("%c", shown(received, column, line));
+        printf("\n");
+    }
+}
