@@ -25,7 +25,8 @@ use Rattle.pairing.proofs.OneToOne.{check-one-to-one}
 use Rattle.vectors.specs.Coefficients as vectors
 use Rattle.quantizer.specs.Calls.{quantizeChecks, quantizeMeaning, quantizeRest, quantizeSays, recordFor, wrongLengths}
 use Rattle.quantizer.proofs.OneToOne.{quantize-one-to-one}
-use Rattle.rules.specs.Taking.{wrongPage, takeRest, takeChecks, takeInto, takeSays}
+use Rattle.rules.specs.Cell.{wrongPage}
+use Rattle.rules.specs.Taking.{takeRest, takeChecks, takeInto, takeSays}
 use Rattle.rules.specs.Judging.{judgeAt, answerNumber, reasonOf}
 use Rattle.rules.specs.Reading.{pointAt, carried, valueAt, readRest, readChecks, readSays, coefficientRest, coefficientChecks}
 use Rattle.rules.specs.Tallying.{cellCheck, tallyRest, tallyChecks, tallyOf, tallySays}
@@ -66,13 +67,13 @@ rest-quantized t p w b =
 rest-tallied : (answer t pg : List ℕ) → numberSaid (firstOf (tallyRest t pg) answer) ≡ numberSaid (firstOf (tallyConditions t pg) answer)
 rest-tallied answer t pg =
     let cells = eachFrom (cellCheck pg) 0 (placesIn t) in
-    behind answer (record { number = 4; values = []; fails = wrongPage t pg }) cells (condition 12 cells ∷ [])
+    behind answer (record { number = 4; values = []; fails = wrongPage (placesIn t) (length pg) }) cells (condition 12 cells ∷ [])
     (one-number-last answer 12 cells (each-of (cellCheck pg) 12 0 (placesIn t) (λ j. refl)))
 
 rest-listed : (answer t pg : List ℕ) (p b : ℕ) → numberSaid (firstOf (linesRest t pg p b) answer) ≡ numberSaid (firstOf (linesConditions t pg p b) answer)
 rest-listed answer t pg p b =
     let cells = eachFrom (cellCheck pg) p (linesIn t p b) in
-    let lengths : Check = record { number = 4; values = []; fails = anyOf (wrongPage t pg ∷ ltb b lineSpace ∷ []) } in
+    let lengths : Check = record { number = 4; values = []; fails = anyOf (wrongPage (placesIn t) (length pg) ∷ ltb b lineSpace ∷ []) } in
     behind answer (record { number = 8; values = []; fails = noSuchPlace t p }) (lengths ∷ cells) (lengths ∷ condition 12 cells ∷ [])
     (behind answer lengths cells (condition 12 cells ∷ [])
     (one-number-last answer 12 cells (each-of (cellCheck pg) 12 p (linesIn t p b) (λ j. refl))))

@@ -9,6 +9,7 @@ use Rattle.channel.proofs.Records.{quantize-writes}
 use Rattle.channel.proofs.Sent.{shown-as-sent, only-signs-change}
 use Rattle.channel.proofs.Shown.{read-only-sent, valued-only-sent}
 use Rattle.channel.proofs.ThreeCases.{cell-told}
+use Rattle.channel.proofs.WholePage.{whole-page}
 
 pub demand-2 : Demand2
 demand-2 = record {
@@ -30,4 +31,5 @@ demand-3 = record {
   d = only-signs-change;
   e-read = read-only-sent;
   e-valued = valued-only-sent;
+  whole-page = whole-page;
 }

@@ -9,6 +9,7 @@ pub mod Accepted
 pub mod Arrived
 pub mod Sent
 pub mod Shown
+pub mod WholePage
 pub mod Numbering
 pub mod Records
 pub mod Answers

@@ -8,10 +8,10 @@ use Rattle.tables.specs.Row.{GoodRow}
 use Rattle.tables.specs.Table.{rowOf}
 use Rattle.tables.proofs.Good.{good-place}
 use Rattle.tables.proofs.Places.{row-holds}
-use Rattle.coding.specs.Coded.{radiusFor}
+use Rattle.coding.specs.Coded.{radiusFor, pointFor}
 use Rattle.quantizer.specs.Calls.{recordFor}
-use Rattle.vectors.specs.Points.{totalOf}
-use Rattle.vectors.proofs.Points.{coordinate-sign, zero-stays}
+use Rattle.vectors.specs.Points.{totalOf, IsPointOf}
+use Rattle.vectors.proofs.Points.{point-is, point-only, zero-stays}
 use Rattle.vectors.proofs.Radii.{least-miss, smaller-on-tie, some-total}
 use Rattle.quantizer.proofs.Written.{number-in, point-in, record-written}
 use Rattle.channel.specs.Demand2.{Quantizes, QuantizeWrites}
@@ -20,6 +20,9 @@ use Rattle.channel.proofs.Accepted.{Accepted, accepts}
 module _ (t : List ℕ) (p : ℕ) (w : List Float) (out : List ℕ) (a : Accepted t p w out) where
   row : GoodRow t (rowOf t p)
   row = good-place t p (a .good) (a .inside) .1
+
+  its-point : IsPointOf (radiusFor t (rowOf t p) w) w (pointFor t (rowOf t p) w)
+  its-point = point-is (radiusFor t (rowOf t p) w) w (some-total t (rowOf t p) row (totalOf w))
 
   written : Quantizes t p w (recordFor t p w)
   written = record {
@@ -30,7 +33,8 @@ module _ (t : List ℕ) (p : ℕ) (w : List Float) (out : List ℕ) (a : Accepte
     least = least-miss t (rowOf t p) row (totalOf w);
     first = smaller-on-tie t (rowOf t p) row (totalOf w);
     on-shell = point-in t p w (a .good) (a .inside) (a .long);
-    signs = coordinate-sign (radiusFor t (rowOf t p) w) w;
+    point = its-point;
+    only-point = λ q is. point-only (radiusFor t (rowOf t p) w) w q (pointFor t (rowOf t p) w) is its-point;
     zeros = λ i h none. zero-stays (radiusFor t (rowOf t p) w) w i h (some-total t (rowOf t p) row (totalOf w)) none;
   }
 

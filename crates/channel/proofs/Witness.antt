@@ -1,11 +1,12 @@
 -- The whole case, computed; and the theorems applied to it. Assumes nothing.
-use Prim.Native.Nat.{ℕ}
+use Prim.Native.Nat.{ℕ, zero, suc}
 use mathlib.Core.Path.{_≡_, refl, sym, ap, _∙_}
 use mathlib.Core.List.{List, [], _∷_, List·Memᴰ·head, List·Memᴰ·tail, List·Memᴰ·cases-cons, List·Memᴰ·not-nil}
 use mathlib.Core.Bool.{Bool, true, false, not, _&&_, _||_, false≢true}
 use mathlib.Core.Logic.{⊎-elim}
 use lib.Ieee.{toBits, round, lt}
 use lib.ListN.{replicate}
+use native.Mathlib.Omega.{arith}
 use Rattle.counts.specs.Counts.{N, binomial, D, S, B, sumAfter, rangeSize, rangeStart}
 use Rattle.counts.specs.Width.{width, bitsFrom}
 use Rattle.enumeration.specs.Product.{patternIndex, shapeOffset, shapeIndex, signIndex, weigh, productIndex}
@@ -23,11 +24,11 @@ use Rattle.records.specs.Record.{recordOf}
 use Rattle.vectors.specs.Example.{vector}
 use Rattle.vectors.specs.Radius.{chosenNumber}
 use Rattle.rules.specs.Cell.{cell, setCell, sameBytes}
-use Rattle.rules.specs.Example.{first, other}
+use Rattle.rules.specs.Example.{of, first, other}
 use Rattle.rules.specs.Taking.{claims, badCell, takeCell, arrive, after, grown, AllEqual}
 use Rattle.rules.specs.Judging.{judgeCodeword, judgeRecord, judge}
 use Rattle.rules.proofs.CellRule.{bytes-same}
-use Rattle.channel.specs.Demand3.{SoundWith}
+use Rattle.channel.specs.Demand3.{SoundWith, PageSent}
 use Rattle.channel.specs.Witness.{sent, turned, arrivals, Witness}
 use Rattle.channel.proofs.Sent.{shown-as-sent, only-signs-change}
 
@@ -50,6 +51,13 @@ each-equal t p r (y ∷ ys) e x m f = ⊎-elim (λ same. same ∙ here (claims t
     here true false ea eb h g = absurd (false≢true h)
     here false false ea eb h g = absurd (false≢true (sym ea ∙ g))
 
+-- both places of the table
+each-sent : PageSent wholeCase (λ p. vector) (λ p. of p 0 1 5) (λ p. sent)
+unfolding toBits lt N binomial D S B sumAfter rangeSize rangeStart patternIndex shapeOffset shapeIndex signIndex weigh productIndex nearestWhole ofPattern unitsOf unusable negative byteOf badRadius badRadii badRow placesBefore rowsBefore firstBest largest give shared recordOf chosenNumber
+each-sent zero h = record { lent = replicate 8 9; accepted = refl; written = refl; point = refl }
+each-sent (suc zero) h = record { lent = replicate 8 9; accepted = refl; written = refl; point = refl }
+each-sent (suc (suc p)) h = absurd (omega arith)
+
 pub witness : Witness
 unfolding onlyClaims claims toBits round lt N binomial D S B sumAfter rangeSize rangeStart width bitsFrom patternIndex shapeOffset shapeIndex signIndex weigh productIndex rangeFrom rangeOf patternOf firstMagnitude shapeLeft shapeOf signsOf pointFrom pointIn productPoint over256 nearestWhole ofPattern unitsOf unusable negative byteOf badRadius badRadii badRow placesBefore rowsBefore firstBest largest give shared recordOf chosenNumber cell setCell badCell takeCell arrive after judgeCodeword judgeRecord judge
 witness = record {
@@ -70,6 +78,7 @@ witness = record {
     says = refl;
     leaves = refl;
   };
+  page-sent = each-sent;
 }
 
 pub sound-here : SoundWith product wholeCase (grown wholeCase (arrivals first)) 0 sent

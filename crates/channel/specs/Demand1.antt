@@ -19,7 +19,8 @@ use Rattle.tables.specs.Table.{placesIn, tableChecks, checkSays, noSuchPlace, r
 use Rattle.pairing.specs.Meanings.{checkMeaning}
 use Rattle.vectors.specs.Coefficients as vectors
 use Rattle.quantizer.specs.Calls.{quantizeChecks, quantizeLeaves, quantizeMeaning, quantizeSays, wrongLengths}
-use Rattle.rules.specs.Taking.{wrongPage, takeRest, takeChecks, takeSays, takeLeaves}
+use Rattle.rules.specs.Cell.{wrongPage}
+use Rattle.rules.specs.Taking.{takeRest, takeChecks, takeSays, takeLeaves}
 use Rattle.rules.specs.Reading.{readRest, readChecks, readSays, readLeaves, coefficientRest, coefficientChecks, coefficientSays, coefficientCarries}
 use Rattle.rules.specs.Tallying.{cellCheck, tallyChecks, tallySays}
 use Rattle.page.specs.Meanings.{takeMeaning, readMeaning, coefficientMeaning, coefficientValues, tallyMeaning}
@@ -48,12 +49,12 @@ quantizeConditions t p w b =
 
 abbrev pub tallyConditions : List ℕ → List ℕ → List Check
 tallyConditions t pg =
-    record { number = 4; values = []; fails = wrongPage t pg } ∷ condition 12 (eachFrom (cellCheck pg) 0 (placesIn t)) ∷ []
+    record { number = 4; values = []; fails = wrongPage (placesIn t) (length pg) } ∷ condition 12 (eachFrom (cellCheck pg) 0 (placesIn t)) ∷ []
 
 abbrev pub linesConditions : List ℕ → List ℕ → ℕ → ℕ → List Check
 linesConditions t pg p b =
     record { number = 8; values = []; fails = noSuchPlace t p }
-    ∷ record { number = 4; values = []; fails = anyOf (wrongPage t pg ∷ ltb b lineSpace ∷ []) }
+    ∷ record { number = 4; values = []; fails = anyOf (wrongPage (placesIn t) (length pg) ∷ ltb b lineSpace ∷ []) }
     ∷ condition 12 (eachFrom (cellCheck pg) p (linesIn t p b))
     ∷ []
 

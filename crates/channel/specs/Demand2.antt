@@ -4,7 +4,6 @@ use Prim.Native.Nat.{ℕ, suc, _*_, _^_, _≤_, _<_, _∣_}
 use mathlib.Core.Path.{_≡_}
 use mathlib.Core.List.{List, [], _∷_, _++_}
 use mathlib.Core.Bool.{true}
-use mathlib.Core.Logic.{_⊎_}
 use lib.Dec.{eqb}
 use lib.Ieee.{Float, nan}
 use lib.IntN.{ℤ, pos}
@@ -18,14 +17,14 @@ use Rattle.enumeration.specs.Reading.{bit, productPoint}
 use Rattle.points.specs.Calls.{indexSays, pointSays, pointLeaves}
 use Rattle.floats.specs.Exact.{IsOver256}
 use Rattle.floats.specs.Nearest.{nearestWhole, IsNearest}
-use Rattle.floats.specs.Units.{unitsOf, negative}
+use Rattle.floats.specs.Units.{unitsOf}
 use Rattle.tables.specs.Usable.{IsUsable}
 use Rattle.tables.specs.Row.{lengthOf, radiiOf, radiusAt}
 use Rattle.tables.specs.Table.{placesIn, Good, rowOf, InRow}
 use Rattle.records.specs.Record.{Holds}
 use Rattle.coding.specs.Coded.{numberFor, radiusFor, pointFor}
 use Rattle.quantizer.specs.Calls.{quantizeSays, quantizeLeaves}
-use Rattle.vectors.specs.Points.{totalOf}
+use Rattle.vectors.specs.Points.{totalOf, IsPointOf}
 use Rattle.vectors.specs.Radius.{missBy}
 use Rattle.rules.specs.Judging.{judgeAt, answerNumber, Shows, shown}
 use Rattle.rules.specs.Reading.{valueAt}
@@ -72,9 +71,10 @@ pub record Quantizes (t : List ℕ) (p : ℕ) (w : List Float) (r : List ℕ) : 
       → radiusFor t (rowOf t p) w ≤ radiusAt t (rowOf t p) n
   -- the point's magnitudes sum to it
   pub on-shell : OnShell (lengthOf t (rowOf t p)) (radiusFor t (rowOf t p) w) (pointFor t (rowOf t p) w)
-  -- a coordinate is 0 or has its coefficient's sign, and is 0 where the coefficient's whole number is
-  pub signs : (i : ℕ) → i < length w
-      → (getD (pointFor t (rowOf t p) w) i (pos 0) ≡ pos 0) ⊎ (isNegative (getD (pointFor t (rowOf t p) w) i (pos 0)) ≡ negative (getD w i nan))
+  -- they are the whole parts, with one more for each of the largest remainders, and a coordinate is 0 or has its coefficient's sign; no other point is so
+  pub point : IsPointOf (radiusFor t (rowOf t p) w) w (pointFor t (rowOf t p) w)
+  pub only-point : (q : List ℤ) → IsPointOf (radiusFor t (rowOf t p) w) w q → q ≡ pointFor t (rowOf t p) w
+  -- a coordinate is 0 where the coefficient's whole number is
   pub zeros : (i : ℕ) → i < length w → nearestWhole (getD w i nan) ≡ 0 → getD (pointFor t (rowOf t p) w) i (pos 0) ≡ pos 0
 
 abbrev pub QuantizeWrites : Type 0

@@ -18,10 +18,10 @@ use Rattle.enumeration.proofs.Product.{product}
 use Rattle.floats.specs.Exact.{over256, IsOver256}
 use Rattle.tables.specs.Row.{lengthOf, stepOf}
 use Rattle.tables.specs.Table.{placesIn, Good, rowOf}
-use Rattle.records.specs.Record.{highFirst}
+use Rattle.octets.specs.Octets.{highFirst}
 use Rattle.coding.specs.Coded.{pointFor}
 use Rattle.quantizer.specs.Calls.{quantizeSays, quantizeLeaves}
-use Rattle.rules.specs.Cell.{cell, heldCell, contestedCell}
+use Rattle.rules.specs.Cell.{cell}
 use Rattle.rules.specs.Taking.{claims, Received, after, grown, Nobody, AllEqual, takeSays}
 use Rattle.rules.specs.Judging.{judge, shown}
 use Rattle.rules.specs.Reading.{readSays, readLeaves, coefficientSays, coefficientCarries}
@@ -82,12 +82,13 @@ ShowsPoint says = (says ≡ 0 ∷ 0 ∷ 0 ∷ []) ⊎ (says ≡ 0 ∷ 1 ∷ 0 �
 abbrev pub AnyOrder : Type 0
 AnyOrder = (t : List ℕ) (s : Received) (xs ys : List (List ℕ)) → List·Permᴰ xs ys → after t s xs ≡ after t s ys
 
--- ---- b. The cell of a place, from an empty page on, is told by what claims it; and "a damaged place is told as damaged".
+-- ---- b. The cell of a place, from an empty page on, is told by what claims it: nine zeros, held with the 8 bytes, or contested, its 8 bytes zero; and
+-- "a damaged place is told as damaged".
 pub record CellTold (t : List ℕ) (xs : List (List ℕ)) (p : ℕ) : Type 0 where
   pub what-came : WhatCame t xs p
   pub nobody : Nobody t xs p → cell (grown t xs) p ≡ replicate 9 0
-  pub all-equal : (y : List ℕ) → OnlyCame t xs p y → cell (grown t xs) p ≡ heldCell y
-  pub two-differ : TwoDiffer t xs p → cell (grown t xs) p ≡ contestedCell
+  pub all-equal : (y : List ℕ) → OnlyCame t xs p y → cell (grown t xs) p ≡ 1 ∷ y
+  pub two-differ : TwoDiffer t xs p → cell (grown t xs) p ≡ 2 ∷ replicate 8 0
   -- so it is read as missing, 2, and as contested, 3
   pub missing : (e : Enumeration) → Nobody t xs p → Blank e t (grown t xs) p 2
   pub contested : (e : Enumeration) → TwoDiffer t xs p → Blank e t (grown t xs) p 3
@@ -127,13 +128,32 @@ pub record OnlySent (e : Enumeration) (t : List ℕ) (xs : List (List ℕ)) (p :
   pub arrived : List ℕ
   pub all-equal : OnlyCame t xs p arrived
   pub its-point : (out : List ℤ) → length out ≡ lengthOf t (rowOf t p)
-      → readLeaves e t (grown t xs) p out ≡ shown e (lengthOf t (rowOf t p)) (judge e t (rowOf t p) (heldCell arrived))
+      → readLeaves e t (grown t xs) p out ≡ shown e (lengthOf t (rowOf t p)) (judge e t (rowOf t p) (1 ∷ arrived))
 
 abbrev pub ReadOnlySent : Type 0
 ReadOnlySent = (e : Enumeration) (t : List ℕ) (xs : List (List ℕ)) (p : ℕ) (out : List ℤ) → ShowsPoint (readSays e t (grown t xs) p out) → OnlySent e t xs p
 
 abbrev pub ValuedOnlySent : Type 0
 ValuedOnlySent = (e : Enumeration) (t : List ℕ) (xs : List (List ℕ)) (p i : ℕ) → ShowsPoint (coefficientSays e t (grown t xs) p i) → OnlySent e t xs p
+
+-- ---- The demand as the order words it: one good table, an empty page, a written record for every place, and any list of arrivals.
+-- What is sent for a page: for each place p the coefficients w p, which quantize accepts, the record r p that it leaves, and its point q p.
+abbrev pub PageSent : List ℕ → (ℕ → List Float) → (ℕ → List ℕ) → (ℕ → List ℤ) → Type 0
+PageSent t w r q = (p : ℕ) → p < placesIn t → Sent t p (w p) (r p) (q p)
+
+pub record PageShown (t : List ℕ) (r : ℕ → List ℕ) (q : ℕ → List ℤ) (xs : List (List ℕ)) : Type 0 where
+  -- the page is the same for any order of arrival
+  pub any-order : (ys : List (List ℕ)) → List·Permᴰ xs ys → grown t xs ≡ grown t ys
+  -- every place whose own record came unchanged, and that no differing record claims, gives the sent point
+  pub unchanged : (p : ℕ) → p < placesIn t → List·Memᴰ (r p) xs → ((x : List ℕ) → List·Memᴰ x xs → claims t x p ≡ true → x ≡ r p)
+      → SoundWith product t (grown t xs) p (q p)
+  -- every place whose record came in one form only, changed only in sign bits, gives the point with exactly those coordinates negated
+  pub signs-changed : (p : ℕ) → p < placesIn t → (codeword : ℕ) → productIndex (q p) / 2 ^ nonzerosIn (q p) ≡ codeword / 2 ^ nonzerosIn (q p)
+      → List·Memᴰ (withCodeword (r p) codeword) xs → ((x : List ℕ) → List·Memᴰ x xs → claims t x p ≡ true → x ≡ withCodeword (r p) codeword)
+      → SoundWith product t (grown t xs) p (flipped (productIndex (q p)) codeword (q p))
+
+abbrev pub WholePage : Type 0
+WholePage = (t : List ℕ) → Good t → (w : ℕ → List Float) (r : ℕ → List ℕ) (q : ℕ → List ℤ) → PageSent t w r q → (xs : List (List ℕ)) → PageShown t r q xs
 
 -- ---- all of demand 3; p is a place of a good table
 pub record Demand3 : Type 0 where
@@ -144,3 +164,4 @@ pub record Demand3 : Type 0 where
   pub d : OnlySignsChange
   pub e-read : ReadOnlySent
   pub e-valued : ValuedOnlySent
+  pub whole-page : WholePage

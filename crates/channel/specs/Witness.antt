@@ -1,4 +1,4 @@
--- Demand 3 c and d on document 01's whole case, so that nobody can call them empty: the vector (1.5, 0, -0.75) is sent for place 0, and what arrives
+-- Demand 3 on document 01's whole case, c and d first, so that nobody can call them empty: the vector (1.5, 0, -0.75) is sent for place 0, and what arrives
 -- is the record of place 1, a record cut short, the record sent, a record of no place, and the record sent once more. Every premise of the two
 -- theorems holds there, and what the readers answer is computed. Assumes nothing.
 use Prim.Native.Nat.{ℕ, _/_, _^_}
@@ -16,7 +16,7 @@ use Rattle.vectors.specs.Example.{vector}
 use Rattle.rules.specs.Example.{of, first, second, other, zeros}
 use Rattle.rules.specs.Taking.{grown, AllEqual}
 use Rattle.rules.specs.Reading.{readSays, readLeaves, coefficientCarries}
-use Rattle.channel.specs.Demand3.{Sent, withCodeword}
+use Rattle.channel.specs.Demand3.{Sent, withCodeword, PageSent}
 
 -- the point of the vector, and the point with the first coordinate negated
 abbrev pub sent : List ℤ
@@ -46,3 +46,5 @@ pub record Witness : Type 0 where
   pub is-changed : withCodeword first 7 ≡ other
   pub is-turned : flipped (productIndex sent) 7 sent ≡ turned
   pub turned-read : Read other turned
+  -- the demand as the order words it: the same vector, sent for every place of the table
+  pub page-sent : PageSent wholeCase (λ p. vector) (λ p. of p 0 1 5) (λ p. sent)

@@ -6,6 +6,7 @@ use lib.Ieee.{Float}
 use lib.ListN.{length}
 use Rattle.tables.specs.Row.{lengthOf, GoodRow, rowsOf}
 use Rattle.tables.specs.Usable.{IsUsable}
+use Rattle.records.specs.Record.{recordLength}
 use Rattle.vectors.specs.Coefficients.{AllUsable}
 use Rattle.vectors.specs.Points.{magnitudesOf, totalOf}
 
@@ -15,7 +16,7 @@ pub record Writable (t : List ℕ) (row : ℕ) (xs : List Float) (held : List �
   pub row-good : GoodRow t row
   pub of-length : length xs ≡ lengthOf t row
   pub all-usable : AllUsable xs
-  pub of-8-bytes : length held ≡ 8
+  pub has-room : length held ≡ recordLength
 
 -- a vector can be coded at a radius above 0 of a usable shell of its length, if not all of it becomes 0; `parts` are its magnitudes
 pub record Codable (l k total : ℕ) (xs : List Float) (parts : List ℕ) : Type 0 where

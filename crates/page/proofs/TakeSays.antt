@@ -1,6 +1,6 @@
 -- What take says and leaves for a good table, check by check. Assumes nothing.
 use Prim.Native.Nat.{ℕ, _+_, _*_, _≤_, _<_}
-use mathlib.Core.Bool.{Bool, true, false, not}
+use mathlib.Core.Bool.{Bool, true, false}
 use mathlib.Core.List.{List, [], _∷_}
 use mathlib.Core.Path.{_≡_, refl, sym, _∙_}
 use native.Mathlib.Omega.{arith}
@@ -8,11 +8,12 @@ use lib.Dec.{eqb}
 use lib.ListN.{length}
 use borrow.Author.Tests.{le-leb, lt-leb, eqb-true, not-false}
 use Rattle.answers.proofs.InOrder.{none-of}
+use Rattle.answers.specs.Checks.{anyOf}
 use Rattle.tables.specs.Table.{placesIn}
-use Rattle.records.specs.Record.{placeIn}
+use Rattle.records.specs.Record.{recordLength, wrongRecord, placeIn}
 use Rattle.rules.proofs.Cells.{set-back}
-use Rattle.rules.specs.Cell.{cellLength, pageLength, cell, setCell}
-use Rattle.rules.specs.Taking.{wrongLengths, badCell, arriveCell, takeSaysIn, takeLeavesIn}
+use Rattle.rules.specs.Cell.{cellLength, pageLength, wrongPage, cell, setCell}
+use Rattle.rules.specs.Taking.{badCell, arriveCell, takeSaysIn, takeLeavesIn}
 use Rattle.places.specs.Bounds.{Sized}
 use Rattle.places.proofs.Parts.{inside, cell-ends, cell-nine}
 
@@ -22,25 +23,25 @@ module _ {t : List ℕ} {places : ℕ} (sized : Sized t places) (pg x : List ℕ
   Does said left = (said ≡ takeSaysIn t pg x) × (left ≡ takeLeavesIn t pg x)
 
   -- `wrong` is what was found of the lengths
-  module _ {wrong : Bool} (judged : wrong ≡ wrongLengths places (length pg) (length x)) where
-    judged-is : {b : Bool} → wrong ≡ b → wrongLengths (placesIn t) (length pg) (length x) ≡ b
+  module _ {wrong : Bool} (judged : wrong ≡ anyOf (wrongRecord (length x) ∷ wrongPage places (length pg) ∷ [])) where
+    judged-is : {b : Bool} → wrong ≡ b → anyOf (wrongRecord (length x) ∷ wrongPage (placesIn t) (length pg) ∷ []) ≡ b
     judged-is same = rw (sized .is-places) at (sym judged ∙ same)
 
     pub take-4 : wrong ≡ true → Does (4 ∷ []) pg
     take-4 e = rw (judged-is e) (refl, refl)
 
     module _ (right : wrong ≡ false) where
-      lengths : (length x ≡ 8) × (length pg ≡ pageLength (placesIn t))
+      lengths : (length x ≡ recordLength) × (length pg ≡ pageLength (placesIn t))
       lengths =
-          let none = none-of (not (eqb (length x) 8) ∷ not (eqb (length pg) (pageLength (placesIn t))) ∷ []) (judged-is right) in (
-            eqb-true (length x) 8 (not-false (eqb (length x) 8) (none .0)),
+          let none = none-of (wrongRecord (length x) ∷ wrongPage (placesIn t) (length pg) ∷ []) (judged-is right) in (
+            eqb-true (length x) recordLength (not-false (eqb (length x) recordLength) (none .0)),
             eqb-true (length pg) (pageLength (placesIn t)) (not-false (eqb (length pg) (pageLength (placesIn t))) (none .1 .0)),
           )
 
       page-long : pageLength (placesIn t) ≡ cellLength * places
       page-long = omega (arith, sized .is-places)
 
-      pub eight : length x ≡ 8
+      pub eight : length x ≡ recordLength
       eight = lengths .0
 
       module _ {p : ℕ} (is-place : p ≡ placeIn x) where

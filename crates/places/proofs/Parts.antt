@@ -13,8 +13,7 @@ use Rattle.tables.specs.Table.{placesIn, Surveys}
 use Rattle.tables.specs.Row.{rowsOf}
 use Rattle.rules.proofs.Claims as claims
 use Rattle.rules.proofs.Cells.{length-cell}
-use Rattle.rules.specs.Cell.{cellLength, pageLength, cell, setCell}
-use Rattle.rules.specs.Taking.{wrongPage}
+use Rattle.rules.specs.Cell.{cellLength, pageLength, wrongPage, cell, setCell}
 use Rattle.places.specs.Bounds.{Sized}
 
 module _ (p : ℕ) {from to : ℕ} (is-from : from ≡ cellLength * p) (is-to : to ≡ cellLength * (p + 1)) where
@@ -47,14 +46,14 @@ module _ {t : List ℕ} {places : ℕ} (sized : Sized t places) where
 
   -- a page, and the size that it is to have
   module _ (pg : List ℕ) {size : ℕ} (is-size : size ≡ cellLength * places) where
-    pub wrong-page : (length pg ≡ size → ⊥) → wrongPage t pg ≡ true
+    pub wrong-page : (length pg ≡ size → ⊥) → wrongPage (placesIn t) (length pg) ≡ true
     wrong-page h = rw (ne-eqb (length pg) (pageLength (placesIn t)) (λ e. h (omega (arith, is-size, sized .is-places)))) refl
 
     module _ (right : length pg ≡ size) where
       pub page-size : length pg ≡ pageLength (placesIn t)
       page-size = omega (arith, is-size, sized .is-places)
 
-      pub right-page : wrongPage t pg ≡ false
+      pub right-page : wrongPage (placesIn t) (length pg) ≡ false
       right-page = claims.right-page t pg page-size
 
       -- the cell of a place is in the page, and has 9 bytes

@@ -2,14 +2,14 @@
 use Prim.Native.Nat.{ℕ, _≤_, _<_}
 use mathlib.Core.Path.{_≡_, refl, sym, _∙_}
 use mathlib.Core.List.{List, [], _∷_}
-use mathlib.Core.Bool.{Bool, true, false, not}
+use mathlib.Core.Bool.{Bool, true, false}
 use native.Mathlib.Omega.{arith}
 use lib.Dec.{eqb, lit<}
 use lib.Ieee.{Float}
 use lib.ListN.{length}
 use borrow.Author.Tests.{le-leb, lt-leb, eqb-true, not-false}
 use Rattle.answers.specs.Refusals.{meaning}
-use Rattle.answers.specs.Checks.{Passes}
+use Rattle.answers.specs.Checks.{wrongLength, Passes}
 use Rattle.answers.specs.declared.Refusal.{Refusal}
 use Rattle.answers.proofs.InOrder.{none-of, refusal-leaves, says-passes, passes-leaves}
 use Rattle.answers.proofs.Each.{each-passes, each-numbered}
@@ -17,7 +17,7 @@ use Rattle.enumeration.specs.Product.{productIndex}
 use Rattle.tables.specs.Row.{lengthOf, rowsOf}
 use Rattle.tables.specs.Table.{placesIn, rowOf, Surveys}
 use Rattle.tables.proofs.Good.{good-place}
-use Rattle.records.specs.Record.{recordOf}
+use Rattle.records.specs.Record.{recordLength, wrongRecord, recordOf}
 use Rattle.vectors.specs.Coefficients.{AllUsable}
 use Rattle.coding.specs.Bounds.{Writable}
 use Rattle.vectors.specs.Coefficients.{coefficientCheck, coefficientChecks, coefficientsSay}
@@ -25,10 +25,10 @@ use Rattle.coding.specs.Coded.{numberFor, pointFor}
 use Rattle.quantizer.specs.Calls.{wrongLengths, recordFor, quantizeSaysIn, quantizeLeavesIn}
 
 -- no buffer has a wrong length
-right-lengths : (l vector bytes : ℕ) → wrongLengths l vector bytes ≡ false → (vector ≡ l) × (bytes ≡ 8)
+right-lengths : (l vector bytes : ℕ) → wrongLengths l vector bytes ≡ false → (vector ≡ l) × (bytes ≡ recordLength)
 right-lengths l vector bytes e =
-    let none = none-of (not (eqb vector l) ∷ not (eqb bytes 8) ∷ []) e in
-    (eqb-true vector l (not-false (eqb vector l) (none .0)), eqb-true bytes 8 (not-false (eqb bytes 8) (none .1 .0)))
+    let none = none-of (wrongLength vector l ∷ wrongRecord bytes ∷ []) e in
+    (eqb-true vector l (not-false (eqb vector l) (none .0)), eqb-true bytes recordLength (not-false (eqb bytes recordLength) (none .1 .0)))
 
 -- no coefficient is refused
 all-pass : (xs : List Float) → 0 ∷ [] ≡ coefficientsSay xs → Passes (coefficientChecks xs)
@@ -73,7 +73,7 @@ module _ (xs : List Float) (held : List ℕ) {t : List ℕ} {p places row : ℕ}
                 row-good = rw (found .is-row) (good-place t p (found .good) inside .1);
                 of-length = lengths .0;
                 all-usable = each-usable xs said;
-                of-8-bytes = lengths .1;
+                has-room = lengths .1;
               }
 
           pub quantize-0 : {left : List ℕ} → left ≡ recordOf p row (numberFor t row xs) (productIndex (pointFor t row xs)) → Does (0 ∷ []) left

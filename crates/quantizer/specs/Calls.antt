@@ -10,7 +10,7 @@ use Rattle.answers.specs.Checks.{Check, anyOf, wrongLength, firstOf, leaves}
 use Rattle.enumeration.specs.Product.{productIndex}
 use Rattle.tables.specs.Row.{lengthOf}
 use Rattle.tables.specs.Table.{tableChecks, noSuchPlace, rowOf}
-use Rattle.records.specs.Record.{recordOf}
+use Rattle.records.specs.Record.{wrongRecord, recordOf}
 use Rattle.coding.specs.Coded.{numberFor, pointFor}
 use Rattle.vectors.specs.Coefficients.{coefficientChecks}
 use Rattle.quantizer.specs.declared.Quantized.{Quantized}
@@ -18,7 +18,7 @@ use Rattle.quantizer.specs.declared.Quantized.the-variants as quantized
 
 -- 4: a lent buffer has the wrong length: vector not l, record not 8
 abbrev pub wrongLengths : ℕ → ℕ → ℕ → Bool
-wrongLengths l vector bytes = anyOf (wrongLength vector l ∷ wrongLength bytes 8 ∷ [])
+wrongLengths l vector bytes = anyOf (wrongLength vector l ∷ wrongRecord bytes ∷ [])
 
 -- Quantize: 7, 8, 4, 11; first the last three, b being the length of the lent record
 abbrev pub quantizeRest : List ℕ → ℕ → List Float → ℕ → List Check

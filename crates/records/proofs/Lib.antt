@@ -1,3 +1,3 @@
 pub mod Bytes
+pub mod Example
 pub mod Fields
-pub mod Reading

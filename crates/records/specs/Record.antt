@@ -1,34 +1,35 @@
 -- A record (document 01, "Quantizing into a record"): 8 bytes, place (2), row (1), radius number within the row (1), codeword (4), high byte
 -- first. Assumes nothing.
-use Prim.Native.Nat.{ℕ, zero, suc, _+_, _*_, _/_, _%_, _^_, _<_}
+use Prim.Native.Nat.{ℕ, _^_, _<_}
 use mathlib.Core.Path.{_≡_}
-use mathlib.Core.List.{List, [], _∷_, _++_}
+use mathlib.Core.List.{List, _++_}
+use mathlib.Core.Bool.{Bool}
 use lib.ListN.{take, drop}
+use Rattle.answers.specs.Checks.{wrongLength}
+use Rattle.octets.specs.Octets.{highFirst, fromHigh}
 
--- the low b bytes of a number, high byte first
-abbrev pub highFirst : ℕ → ℕ → List ℕ
-highFirst zero n = []
-highFirst (suc b) n = n / 256 ^ b % 256 ∷ highFirst b n
+-- so many bytes a record
+abbrev pub recordLength : ℕ
+recordLength = 8
+
+-- 4: record not 8; it has b bytes
+abbrev pub wrongRecord : ℕ → Bool
+wrongRecord b = wrongLength b recordLength
 
 unfoldable pub recordOf : ℕ → ℕ → ℕ → ℕ → List ℕ
 recordOf place row number codeword = highFirst 2 place ++ highFirst 1 row ++ highFirst 1 number ++ highFirst 4 codeword
 
--- the number that bytes stand for
-abbrev pub readFrom : ℕ → List ℕ → ℕ
-readFrom n [] = n
-readFrom n (byte ∷ bytes) = readFrom (256 * n + byte) bytes
-
 abbrev pub placeIn : List ℕ → ℕ
-placeIn bytes = readFrom 0 (take 2 bytes)
+placeIn bytes = fromHigh (take 2 bytes)
 
 abbrev pub rowIn : List ℕ → ℕ
-rowIn bytes = readFrom 0 (take 1 (drop 2 bytes))
+rowIn bytes = fromHigh (take 1 (drop 2 bytes))
 
 abbrev pub numberIn : List ℕ → ℕ
-numberIn bytes = readFrom 0 (take 1 (drop 3 bytes))
+numberIn bytes = fromHigh (take 1 (drop 3 bytes))
 
 abbrev pub codewordIn : List ℕ → ℕ
-codewordIn bytes = readFrom 0 (take 4 (drop 4 bytes))
+codewordIn bytes = fromHigh (take 4 (drop 4 bytes))
 
 -- what a record holds are these four fields
 pub record Holds (bytes : List ℕ) (place row number codeword : ℕ) : Type 0 where

@@ -2,7 +2,7 @@
 ghost use mathlib.Core.Path.{_≡_};
 ghost use Prim.Native.Nat.{_%_, _^_, _<_};
 ghost use lib.ListN.{length, getD};
-ghost use Rattle.records.specs.Record.{recordOf, placeIn, rowIn, numberIn, codewordIn};
+ghost use Rattle.records.specs.Record.{recordLength, recordOf, placeIn, rowIn, numberIn, codewordIn};
 
 // The low byte of a number.
 fn low_byte(n: u64) -> u8
@@ -12,7 +12,7 @@ fn low_byte(n: u64) -> u8
 }
 
 pub fn write(place: u64, row: u64, number: u64, codeword: u64, out: &mut [u8])
-    requires { ⌜ length (now out) ≡ 8 ⌝ }
+    requires { ⌜ length (now out) ≡ recordLength ⌝ }
     ensures { λ _. ⌜ now (out .exit) ≡ recordOf place row number codeword ⌝ }
 {
     out[0] = low_byte(place / 256);
@@ -33,14 +33,14 @@ fn byte(bytes: &[u8], at: usize) -> usize
 }
 
 pub fn place_in(bytes: &[u8]) -> usize
-    requires { ⌜ length (now bytes) ≡ 8 ⌝ }
+    requires { ⌜ length (now bytes) ≡ recordLength ⌝ }
     ensures { λ n. ⌜ (n ≡ placeIn (now (bytes .entry))) × (n < 65536) ⌝ }
 {
     256 * byte(bytes, 0) + byte(bytes, 1)
 }
 
 pub fn row_in(bytes: &[u8]) -> usize
-    requires { ⌜ length (now bytes) ≡ 8 ⌝ }
+    requires { ⌜ length (now bytes) ≡ recordLength ⌝ }
     ensures { λ n. ⌜ (n ≡ rowIn (now (bytes .entry))) × (n < 256) ⌝ }
 {
     byte(bytes, 2)
@@ -48,14 +48,14 @@ pub fn row_in(bytes: &[u8]) -> usize
 
 // The radius number.
 pub fn number_in(bytes: &[u8]) -> usize
-    requires { ⌜ length (now bytes) ≡ 8 ⌝ }
+    requires { ⌜ length (now bytes) ≡ recordLength ⌝ }
     ensures { λ n. ⌜ (n ≡ numberIn (now (bytes .entry))) × (n < 256) ⌝ }
 {
     byte(bytes, 3)
 }
 
 pub fn codeword_in(bytes: &[u8]) -> u64
-    requires { ⌜ length (now bytes) ≡ 8 ⌝ }
+    requires { ⌜ length (now bytes) ≡ recordLength ⌝ }
     ensures { λ n. ⌜ (n ≡ codewordIn (now (bytes .entry))) × (n < 2 ^ 32) ⌝ }
 {
     let high = 256 * byte(bytes, 4) + byte(bytes, 5);

@@ -23,7 +23,8 @@ use Rattle.rules.proofs.Blocks.{collected-then}
 use Rattle.rules.proofs.CellAfter.{after-size}
 use Rattle.rules.proofs.Claims.{right-page}
 use Rattle.rules.proofs.Grown.{empty-size, grown-not-bad}
-use Rattle.rules.specs.Taking.{wrongPage, grown, empty}
+use Rattle.rules.specs.Cell.{wrongPage}
+use Rattle.rules.specs.Taking.{grown, empty}
 use Rattle.rules.specs.Tallying.{cellCheck, tallyRest, tallyOf, tallySays}
 use Rattle.text.specs.Text.{refusedText}
 use Rattle.report.specs.Calls.{startingWith, lineSpace, linesIn, linesRest, linesChecks, linesText, linesAnswer, linesSays, linesLeaves}
@@ -55,7 +56,7 @@ module _ (e : Enumeration) (t : List ℕ) where
 
   module _ (good : Good t) where
     module _ (xs : List (List ℕ)) where
-      page-right : wrongPage t (grown t xs) ≡ false
+      page-right : wrongPage (placesIn t) (length (grown t xs)) ≡ false
       page-right = right-page t (grown t xs) (after-size t good (empty t) xs (empty-size (placesIn t)))
 
       none-bad : (p n : ℕ) → p + n ≤ placesIn t → Passes (eachFrom (cellCheck (grown t xs)) p n)
@@ -91,7 +92,7 @@ module _ (e : Enumeration) (t : List ℕ) where
   said-goes-on pg held p to size said =
       let cs = linesRest t pg p (length held) in
       let good = passes-apart (tableChecks t) cs (said-passes pg held p to size said) in
-      let room : lineSpace ≤ length held = ltb-false (length held) lineSpace (none-of (wrongPage t pg ∷ ltb (length held) lineSpace ∷ []) (good .1 .1 .0) .1 .0) in
+      let room : lineSpace ≤ length held = ltb-false (length held) lineSpace (none-of (wrongPage (placesIn t) (length pg) ∷ ltb (length held) lineSpace ∷ []) (good .1 .1 .0) .1 .0) in
       let on = blocks-go-on p (length held) (leb-false (placesIn t) p (good .1 .0)) room in
       let same : to ≡ p + linesIn t p (length held) = ap (λ (says : List ℕ). getD says 1 0) (said ∙ passes-says (linesAnswer e t pg p (length held)) (linesChecks t pg p (length held)) (said-passes pg held p to size said)) in
       (omega (arith, on .0, same), omega (arith, on .1, same, good-total t (good .0) (rowsOf t) (le-refl (rowsOf t))))

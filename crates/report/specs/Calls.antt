@@ -9,7 +9,7 @@ use Rattle.answers.specs.Checks.{Check, anyOf, firstOf, leaves, eachFrom}
 use Rattle.answers.specs.Refusals.{meaning}
 use Rattle.enumeration.specs.Enumeration.{Enumeration}
 use Rattle.tables.specs.Table.{placesIn, tableChecks, noSuchPlace}
-use Rattle.rules.specs.Taking.{wrongPage}
+use Rattle.rules.specs.Cell.{wrongPage}
 use Rattle.rules.specs.Tallying.{cellCheck}
 use Rattle.report.specs.Listing.{linesFrom}
 use Rattle.report.specs.declared.Listed.{Listed}
@@ -57,7 +57,7 @@ linesIn t p b = min (placesIn t - p) (b / lineSpace)
 abbrev pub linesRest : List ℕ → List ℕ → ℕ → ℕ → List Check
 linesRest t pg p b =
     record { number = 8; values = []; fails = noSuchPlace t p }
-    ∷ record { number = 4; values = []; fails = anyOf (wrongPage t pg ∷ ltb b lineSpace ∷ []) }
+    ∷ record { number = 4; values = []; fails = anyOf (wrongPage (placesIn t) (length pg) ∷ ltb b lineSpace ∷ []) }
     ∷ eachFrom (cellCheck pg) p (linesIn t p b)
 
 abbrev pub linesChecks : List ℕ → List ℕ → ℕ → ℕ → List Check

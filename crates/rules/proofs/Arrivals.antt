@@ -11,8 +11,8 @@ use Rattle.answers.specs.Checks.{pick, anyOf, failsOf}
 use Rattle.answers.proofs.InOrder.{fails-then, fails-leaves}
 use Rattle.tables.specs.Table.{placesIn, tableChecks, Good}
 use Rattle.records.specs.Record.{placeIn}
-use Rattle.rules.specs.Cell.{pageLength, cell, setCell}
-use Rattle.rules.specs.Taking.{names, claims, badCell, wrongPage, takeRest, takeChecks, takeInto, takeLeaves, refusals, arriveCell}
+use Rattle.rules.specs.Cell.{wrongPage, pageLength, cell, setCell}
+use Rattle.rules.specs.Taking.{names, claims, badCell, takeRest, takeChecks, takeInto, takeLeaves, refusals, arriveCell}
 use Rattle.rules.proofs.Cells.{length-cell, length-set, cell-set-same, cell-set-other, page-ext}
 use Rattle.rules.proofs.CellRule.{length-arrives, bad-stays, arrives-two}
 use Rattle.rules.proofs.Claims.{Claims, claim?, claim-is, is-claim, no-claim, claims-own, nextCell, claimed-leaves, claimed-refusals, none-leaves, none-refusals}
@@ -113,11 +113,11 @@ module _ (t : List ℕ) (good : Good t) where
       (λ q h. cell-two pg size y x q h ∙ next-two q y x (cell pg q) ∙ sym (cell-two pg size x y q h))
 
 -- a bad table or a page of another length: every take is refused, and nothing changes
-module _ (t pg : List ℕ) (shut : anyOf (failsOf (tableChecks t)) || wrongPage t pg ≡ true) where
+module _ (t pg : List ℕ) (shut : anyOf (failsOf (tableChecks t)) || wrongPage (placesIn t) (length pg) ≡ true) where
   shut-fails : (x : List ℕ) → anyOf (failsOf (takeChecks t pg x)) ≡ true
   shut-fails x =
       fails-then (tableChecks t) (takeRest t pg x)
-      ∙ go (anyOf (failsOf (tableChecks t))) (wrongPage t pg) (not (eqb (length x) 8)) (anyOf (failsOf (drop 1 (takeRest t pg x)))) shut
+      ∙ go (anyOf (failsOf (tableChecks t))) (wrongPage (placesIn t) (length pg)) (not (eqb (length x) 8)) (anyOf (failsOf (drop 1 (takeRest t pg x)))) shut
     where
       go : (a b c d : Bool) → a || b ≡ true → a || (c || (b || false) || d) ≡ true
       go true b c d e = refl

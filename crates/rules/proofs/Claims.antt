@@ -11,8 +11,8 @@ use Rattle.answers.specs.Checks.{pick, anyOf, failsOf, leaves}
 use Rattle.answers.proofs.InOrder.{fails-then, fails-leaves, passes-fails, passed-leaves}
 use Rattle.tables.specs.Table.{placesIn, tableChecks, noSuchPlace, Good}
 use Rattle.records.specs.Record.{placeIn}
-use Rattle.rules.specs.Cell.{pageLength, cell, setCell}
-use Rattle.rules.specs.Taking.{names, claims, badCell, takeCell, wrongPage, takeRest, takeChecks, takeInto, takeLeaves, refusals, arriveCell}
+use Rattle.rules.specs.Cell.{wrongPage, pageLength, cell, setCell}
+use Rattle.rules.specs.Taking.{names, claims, badCell, takeCell, takeRest, takeChecks, takeInto, takeLeaves, refusals, arriveCell}
 use Rattle.rules.proofs.Cells.{set-back}
 
 -- a claim, field by field
@@ -59,7 +59,7 @@ abbrev pub nextCell : List ℕ → ℕ → List ℕ → List ℕ → List ℕ
 nextCell t p x c = pick (claims t x p) (arriveCell p x c) c
 
 -- a page of the right length
-pub right-page : (t pg : List ℕ) → length pg ≡ pageLength (placesIn t) → wrongPage t pg ≡ false
+pub right-page : (t pg : List ℕ) → length pg ≡ pageLength (placesIn t) → wrongPage (placesIn t) (length pg) ≡ false
 right-page t pg size = rw (eq-eqb (length pg) (pageLength (placesIn t)) size) refl
 
 module _ (t : List ℕ) (good : Good t) (pg : List ℕ) (size : length pg ≡ pageLength (placesIn t)) (x : List ℕ) where

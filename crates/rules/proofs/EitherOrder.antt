@@ -11,8 +11,8 @@ use borrow.Author.Tests.{eqb-true, not-false}
 use Rattle.answers.specs.Checks.{anyOf, failsOf}
 use Rattle.answers.proofs.InOrder.{none-of}
 use Rattle.tables.specs.Table.{placesIn, tableChecks, Good}
-use Rattle.rules.specs.Cell.{pageLength}
-use Rattle.rules.specs.Taking.{wrongPage, Received, arrive}
+use Rattle.rules.specs.Cell.{wrongPage, pageLength}
+use Rattle.rules.specs.Taking.{Received, arrive}
 use Rattle.rules.proofs.Arrivals.{pages-two, refusals-unmoved, shut-leaves, shut-refusals}
 
 -- a table and a page that take records
@@ -20,10 +20,10 @@ pub record Open (t pg : List ℕ) : Type 0 where
   pub good : Good t
   pub size : length pg ≡ pageLength (placesIn t)
 
-pub open-or-shut : (t pg : List ℕ) → Open t pg ⊎ (anyOf (failsOf (tableChecks t)) || wrongPage t pg ≡ true)
-open-or-shut t pg = go (anyOf (failsOf (tableChecks t))) (wrongPage t pg) refl refl
+pub open-or-shut : (t pg : List ℕ) → Open t pg ⊎ (anyOf (failsOf (tableChecks t)) || wrongPage (placesIn t) (length pg) ≡ true)
+open-or-shut t pg = go (anyOf (failsOf (tableChecks t))) (wrongPage (placesIn t) (length pg)) refl refl
   where
-    go : (a b : Bool) → anyOf (failsOf (tableChecks t)) ≡ a → wrongPage t pg ≡ b → Open t pg ⊎ (a || b ≡ true)
+    go : (a b : Bool) → anyOf (failsOf (tableChecks t)) ≡ a → wrongPage (placesIn t) (length pg) ≡ b → Open t pg ⊎ (a || b ≡ true)
     go true b e f = inr refl
     go false true e f = inr refl
     go false false e f =
@@ -38,7 +38,7 @@ module _ (t : List ℕ) (s : Received) (x y : List ℕ) where
   unfolding arrive
   arrive-two = go (open-or-shut t (s .page))
     where
-      go : Open t (s .page) ⊎ (anyOf (failsOf (tableChecks t)) || wrongPage t (s .page) ≡ true) → arrive t (arrive t s x) y ≡ arrive t (arrive t s y) x
+      go : Open t (s .page) ⊎ (anyOf (failsOf (tableChecks t)) || wrongPage (placesIn t) (length (s .page)) ≡ true) → arrive t (arrive t s x) y ≡ arrive t (arrive t s y) x
       go (inl o) =
           ap₂ received (pages-two t (o .good) (s .page) (o .size) x y)
           (rw (refusals-unmoved t (o .good) (s .page) (o .size) y x, refusals-unmoved t (o .good) (s .page) (o .size) x y) (omega arith))

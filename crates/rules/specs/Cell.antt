@@ -1,18 +1,24 @@
 -- A page and its cells (document 01, "The page"): 9 bytes a place, a state (0 empty, 1 held, 2 contested) and a record. Where a place's cell
 -- stands in the page is said here and nowhere else. Assumes nothing.
-use Prim.Native.Nat.{ℕ, zero, suc, _*_}
+use Prim.Native.Nat.{ℕ, zero, suc, _+_, _*_}
 use mathlib.Core.List.{List, [], _∷_, _++_}
 use mathlib.Core.Bool.{Bool, true, false, _&&_}
 use lib.Dec.{eqb}
 use lib.ListN.{getD, take, drop, replicate}
+use Rattle.answers.specs.Checks.{wrongLength}
+use Rattle.records.specs.Record.{recordLength}
 
--- so many bytes a place
+-- so many bytes a place: a state and a record
 abbrev pub cellLength : ℕ
-cellLength = 9
+cellLength = 1 + recordLength
 
 -- the bytes of a page of n places
 abbrev pub pageLength : ℕ → ℕ
 pageLength n = cellLength * n
+
+-- 4: page not 9 x places; it has b bytes
+abbrev pub wrongPage : ℕ → ℕ → Bool
+wrongPage places b = wrongLength b (pageLength places)
 
 -- the cell of place p, and the page with another cell there
 unfoldable pub cell : List ℕ → ℕ → List ℕ
@@ -32,12 +38,12 @@ stateOf c = getD c 0 0
 abbrev pub recordIn : List ℕ → List ℕ
 recordIn c = drop 1 c
 
--- a cell that holds the record y, and one that is contested, its 8 bytes zero
+-- a cell that holds the record y, and one that is contested, its bytes zero
 abbrev pub heldCell : List ℕ → List ℕ
 heldCell y = 1 ∷ y
 
 abbrev pub contestedCell : List ℕ
-contestedCell = 2 ∷ replicate 8 0
+contestedCell = 2 ∷ replicate recordLength 0
 
 -- what goes by the state: empty, held, or contested; a state above 2 is refused before it is asked
 abbrev pub byState : {A : Type 0} → ℕ → A → A → A → A

@@ -1,14 +1,15 @@
 -- Document 01's whole case, taken, read and tallied by the definitions, and single cells of its table: length 3, radii 0 and 2, so that N is 18 and
--- b is 5. proofs/Example.antt computes every line. Assumes nothing.
+-- b is 5. Pages are written out byte for byte, a state and a record for each place, and so is what is said. proofs/Example.antt computes every line.
+-- Assumes nothing.
 use Prim.Native.Nat.{ℕ}
 use mathlib.Core.Path.{_≡_}
 use mathlib.Core.List.{List, [], _∷_, _++_, map}
 use lib.Ieee.{binary32, toBits}
 use lib.IntN.{ℤ, pos, negsuc}
-use lib.ListN.{take, replicate}
+use lib.ListN.{take, drop, replicate}
 use Rattle.enumeration.proofs.Product.{product}
-use Rattle.tables.specs.Example.{wholeCase}
-use Rattle.rules.specs.Cell.{emptyPage, heldCell, contestedCell}
+use Rattle.tables.specs.Example.{wholeCase, twoRows, ofPlaces}
+use Rattle.rules.specs.Cell.{emptyPage}
 use Rattle.rules.specs.Taking.{takeSays, takeLeaves, collected}
 use Rattle.rules.specs.Judging.{judge}
 use Rattle.rules.specs.Reading.{readSays, readLeaves, coefficientSays, coefficientCarries}
@@ -30,11 +31,48 @@ abbrev pub other : List ℕ
 other = of 0 0 1 7
 
 abbrev pub page : List ℕ
-page = heldCell first ++ heldCell second
+page = 1 ∷ first ++ 1 ∷ second
 
--- a page of one such cell, and of garbage in an empty and in a contested cell
+-- pages of one more place's record: of place 0 in both, of place 1 in both, and a state 3
+abbrev pub first-twice : List ℕ
+first-twice = 1 ∷ first ++ 1 ∷ first
+
+abbrev pub second-twice : List ℕ
+second-twice = 1 ∷ second ++ 1 ∷ second
+
+abbrev pub state-3 : List ℕ
+state-3 = 3 ∷ first ++ 1 ∷ second
+
+-- bytes in an empty and in a contested cell
 abbrev pub garbled : List ℕ
 garbled = 0 ∷ replicate 8 7 ++ 2 ∷ replicate 8 9
+
+-- a contested cell, and one that cannot be read
+abbrev pub damaged : List ℕ
+damaged = 2 ∷ replicate 8 0 ++ 1 ∷ of 1 0 1 32
+
+-- 15 places: five sound, four mended, three missing, two contested and one unreadable
+abbrev pub mixed : List ℕ
+mixed =
+    1 ∷ of 0 0 1 5
+    ++ 1 ∷ of 1 0 1 18
+    ++ replicate 9 0
+    ++ 2 ∷ replicate 8 0
+    ++ 1 ∷ of 4 0 1 32
+    ++ 1 ∷ of 5 0 0 0
+    ++ 1 ∷ of 6 0 1 31
+    ++ replicate 9 0
+    ++ 2 ∷ replicate 8 0
+    ++ 1 ∷ of 9 0 1 0
+    ++ 1 ∷ of 10 0 1 19
+    ++ replicate 9 0
+    ++ 1 ∷ of 12 0 1 17
+    ++ 1 ∷ of 13 0 1 20
+    ++ 1 ∷ of 14 0 1 1
+
+-- the same row with a step of 3 x 256 + 7
+abbrev pub step-775 : List ℕ
+step-775 = take 10 wholeCase ++ 3 ∷ 7 ∷ drop 12 wholeCase
 
 abbrev pub zeros : List ℤ
 zeros = replicate 3 (pos 0)
@@ -43,43 +81,101 @@ abbrev pub nines : List ℤ
 nines = replicate 3 (pos 9)
 
 pub record Example : Type 0 where
-  -- the run of the two records and a shorter last part
-  pub taken : collected wholeCase (emptyPage 2) (first ++ second ++ take 7 first) ≡ record { page = page; refused = 1 }
+  -- ---- taking
+  -- the run of the two records, and a shorter last part
+  pub empty-page : emptyPage 2 ≡ replicate 18 0
+  pub taken-whole : collected wholeCase (replicate 18 0) (first ++ second) ≡ record { page = page; refused = 0 }
+  pub taken : collected wholeCase (replicate 18 0) (first ++ second ++ take 7 first) ≡ record { page = page; refused = 1 }
+  -- again, and another: held stays, then contested, its 8 bytes zero; then it stays
+  pub again : takeLeaves wholeCase page first ≡ page
+  pub differs : takeLeaves wholeCase page other ≡ 2 ∷ 0 ∷ 0 ∷ 0 ∷ 0 ∷ 0 ∷ 0 ∷ 0 ∷ 0 ∷ 1 ∷ second
+  pub contested-stays : takeLeaves wholeCase damaged first ≡ damaged
+  -- an empty cell is empty whatever stands in it, and a contested one keeps what stands in it; neither is refused
+  pub garbage : takeLeaves wholeCase garbled first ≡ 1 ∷ first ++ 2 ∷ replicate 8 9
+  pub garbage-says : takeSays wholeCase garbled first ≡ 0 ∷ []
+  pub garbage-stays : takeLeaves wholeCase garbled second ≡ garbled
+  pub garbage-taken : takeSays wholeCase garbled second ≡ 0 ∷ []
+  -- a record with a foreign row, no such radius number and a huge codeword is taken all the same
+  pub other-fields : takeLeaves wholeCase (replicate 18 0) (of 0 1 9 255) ≡ 1 ∷ of 0 1 9 255 ++ replicate 9 0
+  -- ---- reading
   pub sound-says : readSays product wholeCase page 0 zeros ≡ 0 ∷ 0 ∷ 0 ∷ []
   pub sound-leaves : readLeaves product wholeCase page 0 zeros ≡ pos 1 ∷ pos 0 ∷ negsuc 0 ∷ []
   pub mended-says : readSays product wholeCase page 1 zeros ≡ 0 ∷ 1 ∷ 0 ∷ []
   pub mended-leaves : readLeaves product wholeCase page 1 zeros ≡ pos 0 ∷ negsuc 0 ∷ pos 1 ∷ []
-  -- an empty place writes zeros into a buffer of nines
-  pub missing-says : readSays product wholeCase (emptyPage 2) 1 nines ≡ 0 ∷ 2 ∷ 0 ∷ []
-  pub missing-leaves : readLeaves product wholeCase (emptyPage 2) 1 nines ≡ zeros
-  pub tallied : tallySays product wholeCase page ≡ 0 ∷ 1 ∷ 1 ∷ 0 ∷ 0 ∷ 0 ∷ []
-  -- 1.0, 0.0 and -1.0
+  -- the other three write zeros into a buffer of nines; so do an empty and a contested cell with bytes in them
+  pub missing-says : readSays product wholeCase (replicate 18 0) 1 nines ≡ 0 ∷ 2 ∷ 0 ∷ []
+  pub missing-leaves : readLeaves product wholeCase (replicate 18 0) 1 nines ≡ zeros
+  pub contested-says : readSays product wholeCase damaged 0 nines ≡ 0 ∷ 3 ∷ 0 ∷ []
+  pub contested-leaves : readLeaves product wholeCase damaged 0 nines ≡ zeros
+  pub unreadable-says : readSays product wholeCase damaged 1 nines ≡ 0 ∷ 4 ∷ 14 ∷ []
+  pub unreadable-leaves : readLeaves product wholeCase damaged 1 nines ≡ zeros
+  pub garbage-missing : readSays product wholeCase garbled 0 nines ≡ 0 ∷ 2 ∷ 0 ∷ []
+  pub garbage-contested : readSays product wholeCase garbled 1 nines ≡ 0 ∷ 3 ∷ 0 ∷ []
+  -- codewords: N - 1, N, 2^b - 1, 2^b; at radius 0, where b is 0, 0 and 1
+  pub codeword-17 : judge product wholeCase 0 (1 ∷ of 0 0 1 17) ≡ judged.Sound 2 17
+  pub codeword-18 : judge product wholeCase 0 (1 ∷ of 0 0 1 18) ≡ judged.Mended 2 2
+  pub codeword-31 : judge product wholeCase 0 (1 ∷ of 0 0 1 31) ≡ judged.Mended 2 15
+  pub codeword-32 : judge product wholeCase 0 (1 ∷ of 0 0 1 32) ≡ judged.Unreadable 14
+  pub codeword-0-0 : judge product wholeCase 0 (1 ∷ of 0 0 0 0) ≡ judged.Sound 0 0
+  pub codeword-0-1 : judge product wholeCase 0 (1 ∷ of 0 0 0 1) ≡ judged.Unreadable 14
+  -- the reasons in their order; a row below the place's is foreign too
+  pub reason-9 : judge product wholeCase 0 (1 ∷ of 0 1 2 99) ≡ judged.Unreadable 9
+  pub reason-9-below : judge product twoRows 1 (1 ∷ of 2 0 1 5) ≡ judged.Unreadable 9
+  pub reason-10 : judge product wholeCase 0 (1 ∷ of 0 0 2 99) ≡ judged.Unreadable 10
+  -- ---- one coefficient: 1.0, 0.0 and -1.0; with a step of 775 over 256 the mended ones are 0.0, -3.02734375 and 3.02734375
+  pub coefficient-sound : coefficientSays product wholeCase page 0 0 ≡ 0 ∷ 0 ∷ 0 ∷ []
   pub values-0 : map (toBits binary32) (coefficientCarries product wholeCase page 0 0) ≡ 1065353216 ∷ []
   pub values-1 : map (toBits binary32) (coefficientCarries product wholeCase page 0 1) ≡ 0 ∷ []
   pub values-2 : map (toBits binary32) (coefficientCarries product wholeCase page 0 2) ≡ 3212836864 ∷ []
-  -- again, and another: held stays, then contested
-  pub again : takeLeaves wholeCase page first ≡ page
-  pub differs : takeLeaves wholeCase page other ≡ contestedCell ++ heldCell second
-  -- an empty cell is empty whatever stands in it, and a contested one keeps what stands in it
-  pub garbage : takeLeaves wholeCase garbled first ≡ heldCell first ++ 2 ∷ replicate 8 9
-  pub contested-stays : takeLeaves wholeCase garbled second ≡ garbled
-  -- codewords: N - 1, N, 2^b - 1, 2^b; at radius 0, where b is 0, 0 and 1
-  pub codeword-17 : judge product wholeCase 0 (heldCell (of 0 0 1 17)) ≡ judged.Sound 2 17
-  pub codeword-18 : judge product wholeCase 0 (heldCell (of 0 0 1 18)) ≡ judged.Mended 2 2
-  pub codeword-31 : judge product wholeCase 0 (heldCell (of 0 0 1 31)) ≡ judged.Mended 2 15
-  pub codeword-32 : judge product wholeCase 0 (heldCell (of 0 0 1 32)) ≡ judged.Unreadable 14
-  pub codeword-0-0 : judge product wholeCase 0 (heldCell (of 0 0 0 0)) ≡ judged.Sound 0 0
-  pub codeword-0-1 : judge product wholeCase 0 (heldCell (of 0 0 0 1)) ≡ judged.Unreadable 14
-  -- the reasons in their order
-  pub reason-9 : judge product wholeCase 0 (heldCell (of 0 1 2 99)) ≡ judged.Unreadable 9
-  pub reason-10 : judge product wholeCase 0 (heldCell (of 0 0 2 99)) ≡ judged.Unreadable 10
-  -- a record with a foreign row, no such radius number and a huge codeword is taken all the same
-  pub other-fields : takeLeaves wholeCase (emptyPage 2) (of 0 1 9 255) ≡ heldCell (of 0 1 9 255) ++ replicate 9 0
-  -- refusals: 4 before 8, 8, 12 at the record's own place, 13 before 12, and 12 with the lowest place
-  pub short : takeSays wholeCase page (take 7 (of 2 0 1 5)) ≡ 4 ∷ []
-  pub beyond : takeSays wholeCase page (of 2 0 1 5) ≡ 8 ∷ []
-  pub foreign : takeSays wholeCase (heldCell second ++ heldCell second) first ≡ 12 ∷ []
-  pub beside-it : takeSays wholeCase (heldCell second ++ heldCell second) second ≡ 0 ∷ []
-  pub read-foreign : readSays product wholeCase (heldCell second ++ heldCell second) 0 zeros ≡ 12 ∷ []
-  pub coordinate-first : coefficientSays product wholeCase (heldCell second ++ heldCell second) 0 3 ≡ 13 ∷ []
-  pub lowest : tallySays product wholeCase (heldCell second ++ 3 ∷ second) ≡ 12 ∷ 0 ∷ []
+  pub coefficient-mended : coefficientSays product step-775 page 1 1 ≡ 0 ∷ 1 ∷ 0 ∷ []
+  pub scaled-0 : map (toBits binary32) (coefficientCarries product step-775 page 1 0) ≡ 0 ∷ []
+  pub scaled-1 : map (toBits binary32) (coefficientCarries product step-775 page 1 1) ≡ 3225534464 ∷ []
+  pub scaled-2 : map (toBits binary32) (coefficientCarries product step-775 page 1 2) ≡ 1078050816 ∷ []
+  -- the other three carry none
+  pub coefficient-missing : coefficientSays product wholeCase (replicate 18 0) 0 2 ≡ 0 ∷ 2 ∷ 0 ∷ []
+  pub missing-carries : coefficientCarries product wholeCase (replicate 18 0) 0 2 ≡ []
+  pub coefficient-contested : coefficientSays product wholeCase damaged 0 2 ≡ 0 ∷ 3 ∷ 0 ∷ []
+  pub contested-carries : coefficientCarries product wholeCase damaged 0 2 ≡ []
+  pub coefficient-unreadable : coefficientSays product wholeCase damaged 1 2 ≡ 0 ∷ 4 ∷ 14 ∷ []
+  pub unreadable-carries : coefficientCarries product wholeCase damaged 1 2 ≡ []
+  -- ---- the tally: sound, mended, missing, contested, unreadable
+  pub tallied : tallySays product wholeCase page ≡ 0 ∷ 1 ∷ 1 ∷ 0 ∷ 0 ∷ 0 ∷ []
+  pub tallied-mixed : tallySays product (ofPlaces 0 15) mixed ≡ 0 ∷ 5 ∷ 4 ∷ 3 ∷ 2 ∷ 1 ∷ []
+  -- ---- refusals of take: 7, 4, 8, 12; with two faults at once, the first is told
+  pub take-7 : takeSays (take 15 wholeCase) (take 17 page) (take 7 first) ≡ 7 ∷ 0 ∷ []
+  pub take-4-short : takeSays wholeCase page (take 7 (of 2 0 1 5)) ≡ 4 ∷ []
+  pub take-4-long : takeSays wholeCase page (first ++ 0 ∷ []) ≡ 4 ∷ []
+  pub take-4-page-short : takeSays wholeCase (take 17 page) (of 2 0 1 5) ≡ 4 ∷ []
+  pub take-4-page-long : takeSays wholeCase (page ++ 0 ∷ []) first ≡ 4 ∷ []
+  pub take-8 : takeSays wholeCase page (of 2 0 1 5) ≡ 8 ∷ []
+  pub take-8-high : takeSays wholeCase page (1 ∷ drop 1 first) ≡ 8 ∷ []
+  -- 12 at the record's own place: a held record of a higher and of a lower place, one whose place differs in the high byte, and a state above 2
+  pub take-12-higher : takeSays wholeCase second-twice first ≡ 12 ∷ []
+  pub take-12-lower : takeSays wholeCase first-twice second ≡ 12 ∷ []
+  pub take-12-high : takeSays wholeCase (1 ∷ 1 ∷ drop 1 first ++ 1 ∷ second) first ≡ 12 ∷ []
+  pub take-12-state : takeSays wholeCase state-3 first ≡ 12 ∷ []
+  pub take-beside-it : takeSays wholeCase second-twice second ≡ 0 ∷ []
+  -- ---- of read: 7, 8, 4, 12
+  pub read-7 : readSays product (take 15 wholeCase) (take 17 page) 2 [] ≡ 7 ∷ 0 ∷ []
+  pub read-8 : readSays product wholeCase page 2 zeros ≡ 8 ∷ []
+  pub read-8-first : readSays product wholeCase (take 17 page) 2 [] ≡ 8 ∷ []
+  pub read-4-page-short : readSays product wholeCase (take 17 second-twice) 0 zeros ≡ 4 ∷ []
+  pub read-4-page-long : readSays product wholeCase (page ++ 0 ∷ []) 0 zeros ≡ 4 ∷ []
+  pub read-4-short : readSays product wholeCase second-twice 0 (take 2 zeros) ≡ 4 ∷ []
+  pub read-4-long : readSays product wholeCase page 0 (pos 0 ∷ zeros) ≡ 4 ∷ []
+  pub read-12 : readSays product wholeCase second-twice 0 zeros ≡ 12 ∷ []
+  pub read-12-leaves : readLeaves product wholeCase second-twice 0 nines ≡ nines
+  -- ---- of one coefficient: 7, 8, 4, 13, 12; 13 at a missing place too
+  pub coefficient-7 : coefficientSays product (take 15 wholeCase) (take 17 page) 2 3 ≡ 7 ∷ 0 ∷ []
+  pub coefficient-8 : coefficientSays product wholeCase (take 17 page) 2 3 ≡ 8 ∷ []
+  pub coefficient-4 : coefficientSays product wholeCase (take 17 second-twice) 0 3 ≡ 4 ∷ []
+  pub coefficient-13 : coefficientSays product wholeCase second-twice 0 3 ≡ 13 ∷ []
+  pub coefficient-13-missing : coefficientSays product wholeCase (replicate 18 0) 0 3 ≡ 13 ∷ []
+  pub coefficient-12 : coefficientSays product wholeCase second-twice 0 2 ≡ 12 ∷ []
+  pub refused-carries : coefficientCarries product wholeCase second-twice 0 2 ≡ []
+  -- ---- of the tally: 7, 4, 12 with the lowest place
+  pub tally-7 : tallySays product (take 15 wholeCase) (take 17 page) ≡ 7 ∷ 0 ∷ []
+  pub tally-4 : tallySays product wholeCase (take 17 state-3) ≡ 4 ∷ []
+  pub tally-4-long : tallySays product wholeCase (page ++ 0 ∷ []) ≡ 4 ∷ []
+  pub tally-12 : tallySays product wholeCase first-twice ≡ 12 ∷ 1 ∷ []
+  pub tally-12-lowest : tallySays product wholeCase (3 ∷ first ++ 3 ∷ second) ≡ 12 ∷ 0 ∷ []

@@ -10,9 +10,9 @@ use Rattle.answers.specs.Checks.{Check, anyOf, firstOf, leaves, wrongLength}
 use Rattle.enumeration.specs.Enumeration.{Enumeration}
 use Rattle.floats.specs.Exact.{over256}
 use Rattle.tables.specs.Row.{lengthOf, stepOf}
-use Rattle.tables.specs.Table.{tableChecks, noSuchPlace, rowOf}
-use Rattle.rules.specs.Cell.{cell}
-use Rattle.rules.specs.Taking.{badCell, wrongPage}
+use Rattle.tables.specs.Table.{placesIn, tableChecks, noSuchPlace, rowOf}
+use Rattle.rules.specs.Cell.{wrongPage, cell}
+use Rattle.rules.specs.Taking.{badCell}
 use Rattle.rules.specs.Judging.{judgeAt, answerNumber, reasonOf, shown}
 use Rattle.rules.specs.declared.Judged.{Judged}
 use Rattle.rules.specs.declared.Judged.the-variants as judged
@@ -29,7 +29,7 @@ told j = 0 ∷ answerNumber j ∷ reasonOf j ∷ []
 abbrev pub readRest : List ℕ → List ℕ → ℕ → ℕ → List Check
 readRest t pg p b =
     record { number = 8; values = []; fails = noSuchPlace t p }
-    ∷ record { number = 4; values = []; fails = anyOf (wrongPage t pg ∷ wrongLength b (lengthOf t (rowOf t p)) ∷ []) }
+    ∷ record { number = 4; values = []; fails = anyOf (wrongPage (placesIn t) (length pg) ∷ wrongLength b (lengthOf t (rowOf t p)) ∷ []) }
     ∷ record { number = 12; values = []; fails = badCell p (cell pg p) }
     ∷ []
 
@@ -54,7 +54,7 @@ readLeavesIn e t pg p held = leaves (readRest t pg p (length held)) (pointAt e t
 abbrev pub coefficientRest : List ℕ → List ℕ → ℕ → ℕ → List Check
 coefficientRest t pg p i =
     record { number = 8; values = []; fails = noSuchPlace t p }
-    ∷ record { number = 4; values = []; fails = wrongPage t pg }
+    ∷ record { number = 4; values = []; fails = wrongPage (placesIn t) (length pg) }
     ∷ record { number = 13; values = []; fails = leb (lengthOf t (rowOf t p)) i }
     ∷ record { number = 12; values = []; fails = badCell p (cell pg p) }
     ∷ []

@@ -1,15 +1,15 @@
 -- Taking records into a page (document 01, "The page", "Refusal numbers" and "Order of checks"). t is the table's bytes, pg the page's, x those of
 -- a record or of what arrived for one; all of them any, of any length. Assumes nothing.
-use Prim.Native.Nat.{ℕ, zero, suc, _+_, _/_}
+use Prim.Native.Nat.{ℕ, zero, suc, _+_, _-_, _/_}
 use mathlib.Core.Path.{_≡_}
 use mathlib.Core.List.{List, [], _∷_, _++_, List·Memᴰ}
 use mathlib.Core.Bool.{Bool, true, false, not, _&&_}
 use lib.Dec.{eqb, ltb}
 use lib.ListN.{length, take, drop}
-use Rattle.answers.specs.Checks.{Check, anyOf, pick, firstOf, leaves, failsOf, wrongLength}
+use Rattle.answers.specs.Checks.{Check, anyOf, pick, firstOf, leaves, failsOf}
 use Rattle.tables.specs.Table.{placesIn, tableChecks, noSuchPlace}
-use Rattle.records.specs.Record.{placeIn}
-use Rattle.rules.specs.Cell.{pageLength, cell, setCell, emptyPage, stateOf, recordIn, heldCell, contestedCell, byState, sameBytes}
+use Rattle.records.specs.Record.{recordLength, wrongRecord, placeIn}
+use Rattle.rules.specs.Cell.{wrongPage, cell, setCell, emptyPage, stateOf, recordIn, heldCell, contestedCell, byState, sameBytes}
 
 -- a record names a place
 abbrev pub names : List ℕ → ℕ → Bool
@@ -17,7 +17,7 @@ names x p = eqb (placeIn x) p
 
 -- a taken record claims its place if that place is in the table; what is no record claims none
 unfoldable pub claims : List ℕ → List ℕ → ℕ → Bool
-claims t x p = eqb (length x) 8 && names x p && not (noSuchPlace t p)
+claims t x p = eqb (length x) recordLength && names x p && not (noSuchPlace t p)
 
 -- 12: state byte above 2, or a held record with another place number; c is the cell of place p
 unfoldable pub badCell : ℕ → List ℕ → Bool
@@ -32,17 +32,10 @@ takeCell x c = byState (stateOf c) (heldCell x) (pick (sameBytes (recordIn c) x)
 abbrev pub arriveCell : ℕ → List ℕ → List ℕ → List ℕ
 arriveCell p x c = pick (badCell p c) c (takeCell x c)
 
--- 4: page not 9 x places; in take, record not 8 too
-abbrev pub wrongPage : List ℕ → List ℕ → Bool
-wrongPage t pg = wrongLength (length pg) (pageLength (placesIn t))
-
-abbrev pub wrongLengths : ℕ → ℕ → ℕ → Bool
-wrongLengths places page bytes = anyOf (wrongLength bytes 8 ∷ wrongLength page (pageLength places) ∷ [])
-
 -- Take: 7, 4, 8, 12; first those after the table's
 abbrev pub takeRest : List ℕ → List ℕ → List ℕ → List Check
 takeRest t pg x =
-    record { number = 4; values = []; fails = wrongLengths (placesIn t) (length pg) (length x) }
+    record { number = 4; values = []; fails = anyOf (wrongRecord (length x) ∷ wrongPage (placesIn t) (length pg) ∷ []) }
     ∷ record { number = 8; values = []; fails = noSuchPlace t (placeIn x) }
     ∷ record { number = 12; values = []; fails = badCell (placeIn x) (cell pg (placeIn x)) }
     ∷ []
@@ -100,13 +93,13 @@ Nobody t xs p = (x : List ℕ) → List·Memᴰ x xs → claims t x p ≡ false
 abbrev pub AllEqual : List ℕ → List (List ℕ) → ℕ → List ℕ → Type 0
 AllEqual t xs p y = (x : List ℕ) → List·Memᴰ x xs → claims t x p ≡ true → x ≡ y
 
--- a run of bytes is taken eight by eight, and a shorter last part too
+-- a run of bytes is taken record by record, and a shorter last part too
 unfoldable pub partsFrom : ℕ → List ℕ → List (List ℕ)
 partsFrom zero bytes = []
-partsFrom (suc n) bytes = take 8 bytes ∷ partsFrom n (drop 8 bytes)
+partsFrom (suc n) bytes = take recordLength bytes ∷ partsFrom n (drop recordLength bytes)
 
 abbrev pub partsOf : List ℕ → List (List ℕ)
-partsOf bytes = partsFrom ((length bytes + 7) / 8) bytes
+partsOf bytes = partsFrom ((length bytes + (recordLength - 1)) / recordLength) bytes
 
 -- what the call collect answers and leaves: the number of refused takes, and the page
 abbrev pub collected : List ℕ → List ℕ → List ℕ → Received

@@ -3,11 +3,12 @@
 use Prim.Native.Nat.{ℕ, zero, suc}
 use mathlib.Core.List.{List, [], _∷_, _++_}
 use lib.Dec.{eqb}
+use lib.ListN.{length}
 use Rattle.answers.specs.Checks.{Check, pick, firstOf, eachFrom}
 use Rattle.enumeration.specs.Enumeration.{Enumeration}
 use Rattle.tables.specs.Table.{placesIn, tableChecks}
-use Rattle.rules.specs.Cell.{cell}
-use Rattle.rules.specs.Taking.{badCell, wrongPage}
+use Rattle.rules.specs.Cell.{wrongPage, cell}
+use Rattle.rules.specs.Taking.{badCell}
 use Rattle.rules.specs.Judging.{judgeAt, answerNumber}
 
 -- 12 at every place: the tally names the lowest
@@ -16,7 +17,7 @@ cellCheck pg p = record { number = 12; values = p ∷ []; fails = badCell p (cel
 
 -- Tally: 7, 4, 12; first those after the table's
 abbrev pub tallyRest : List ℕ → List ℕ → List Check
-tallyRest t pg = record { number = 4; values = []; fails = wrongPage t pg } ∷ eachFrom (cellCheck pg) 0 (placesIn t)
+tallyRest t pg = record { number = 4; values = []; fails = wrongPage (placesIn t) (length pg) } ∷ eachFrom (cellCheck pg) 0 (placesIn t)
 
 abbrev pub tallyChecks : List ℕ → List ℕ → List Check
 tallyChecks t pg = tableChecks t ++ tallyRest t pg

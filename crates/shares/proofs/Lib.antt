@@ -4,3 +4,5 @@ pub mod Sums
 pub mod Giving
 pub mod Sharing
 pub mod Divided
+pub mod Remainders
+pub mod Example

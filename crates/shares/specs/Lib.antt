@@ -1,2 +1,4 @@
 pub mod Best
 pub mod Shares
+pub mod Remainders
+pub mod Example

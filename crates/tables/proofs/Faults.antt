@@ -1,5 +1,5 @@
 -- The faults of a row by the facts that the code finds. Assumes nothing.
-use Prim.Native.Nat.{ℕ, zero, suc, _+_, _-_, _^_, _≤_, _<_}
+use Prim.Native.Nat.{ℕ, zero, suc, _+_, _-_, _≤_, _<_}
 use mathlib.Core.Path.{_≡_, refl, sym, _∙_}
 use mathlib.Core.List.{List}
 use mathlib.Core.Bool.{Bool, true, false, not, _||_, or-true, or-false, false≢true}
@@ -10,6 +10,7 @@ use lib.Dec.{eqb, leb, ltb}
 use borrow.Author.Tests.{lt-ltb, le-ltb}
 use Rattle.counts.specs.Counts.{N}
 use Rattle.tables.specs.Largest.{largestRadius}
+use Rattle.tables.specs.Usable.{mostPoints}
 use Rattle.tables.proofs.Largest.{largest-to, usable-up-to, unusable-past}
 use Rattle.tables.specs.Row.{lengthOf, radiiOf, radiusAt, unusable, outOfOrder, badRadius, badRadii}
 
@@ -17,11 +18,11 @@ use Rattle.tables.specs.Row.{lengthOf, radiiOf, radiusAt, unusable, outO
 pub above-largest : (l k : ℕ) → 1 ≤ l → l ≤ 16 → ltb (largestRadius l) k ≡ unusable l k
 above-largest l k p q = rw (le-ltb l 1 p, le-ltb 16 l q) (go (decLt 32 k) (decLe k (largestRadius l)))
   where
-    go : Dec (32 < k) → Dec (k ≤ largestRadius l) → ltb (largestRadius l) k ≡ (ltb 32 k || (ltb (2 ^ 32) (N l k) || false))
+    go : Dec (32 < k) → Dec (k ≤ largestRadius l) → ltb (largestRadius l) k ≡ (ltb 32 k || (ltb mostPoints (N l k) || false))
     go (yes h) d = rw (lt-ltb 32 k h, lt-ltb (largestRadius l) k (omega (arith, largest-to l p q)))
-    go (no h) (yes g) = rw (le-ltb 32 k (omega arith), le-ltb (largestRadius l) k g, le-ltb (2 ^ 32) (N l k) (usable-up-to l k p q g))
+    go (no h) (yes g) = rw (le-ltb 32 k (omega arith), le-ltb (largestRadius l) k g, le-ltb mostPoints (N l k) (usable-up-to l k p q g))
     go (no h) (no g) =
-        rw (le-ltb 32 k (omega arith), lt-ltb (largestRadius l) k (omega arith), lt-ltb (2 ^ 32) (N l k) (unusable-past l k p q (omega arith) (omega arith)))
+        rw (le-ltb 32 k (omega arith), lt-ltb (largestRadius l) k (omega arith), lt-ltb mostPoints (N l k) (unusable-past l k p q (omega arith) (omega arith)))
 
 module _ (t : List ℕ) (r n : ℕ) where
   pub unused-says : radiiOf t r ≤ n → not (eqb (radiusAt t r n) 0) ≡ badRadius t r n

@@ -1,5 +1,5 @@
 -- A row is in range, field by field, exactly when it is not bad by itself. Assumes nothing.
-use Prim.Native.Nat.{ℕ, zero, suc, _^_, _≤_, _<_}
+use Prim.Native.Nat.{ℕ, zero, suc, _≤_, _<_}
 use mathlib.Core.Path.{_≡_, refl, sym, _∙_}
 use mathlib.Core.List.{List, [], _∷_}
 use mathlib.Core.Bool.{false, not}
@@ -11,7 +11,7 @@ use borrow.Author.Tests.{ltb-false, leb-false, eqb-true, not-false, lt-ltb, le-l
 use Rattle.answers.specs.Checks.{anyOf, NoneOf, failsOf}
 use Rattle.answers.proofs.InOrder.{none-of}
 use Rattle.counts.specs.Counts.{N}
-use Rattle.tables.specs.Usable.{lengthOutside, shellChecks, IsUsable}
+use Rattle.tables.specs.Usable.{lengthOutside, mostPoints, shellChecks, IsUsable}
 use Rattle.tables.proofs.Usable.{length-inside, passes-usable}
 use Rattle.tables.specs.Row.{byteOf, lengthOf, radiiOf, radiusAt, stepOf, placesOf, radiiOutside, unusable, outOfOrder, badRadius, badRadii, tailFaults, badRow, GoodRow}
 use Rattle.tables.proofs.Faults.{unused-says, used-says, radius-at}
@@ -73,7 +73,7 @@ module _ (t : List ℕ) (r : ℕ) (row : GoodRow t r) where
       let l = lengthOf t r in
       let k = radiusAt t r n in
       let u = row .radius-usable n h in
-      rw (le-ltb l 1 (u .length-from), le-ltb 16 l (u .length-to), le-ltb 32 k (u .radius-to), le-ltb (2 ^ 32) (N l k) (u .points-to))
+      rw (le-ltb l 1 (u .length-from), le-ltb 16 l (u .length-to), le-ltb 32 k (u .radius-to), le-ltb mostPoints (N l k) (u .points-to))
 
   position-good : (n : ℕ) → n < 8 → badRadius t r n ≡ false
   position-good n g = go (decLt n (radiiOf t r))

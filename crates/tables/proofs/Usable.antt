@@ -1,6 +1,6 @@
 -- What the checks of a shell say, and what they tell: the refusals 1, 2 and 3 by the facts that a call finds, and that a shell which passes
 -- them is usable. Assumes nothing.
-use Prim.Native.Nat.{ℕ, _^_, _≤_, _<_}
+use Prim.Native.Nat.{ℕ, _≤_, _<_}
 use mathlib.Core.Path.{_≡_, sym}
 use mathlib.Core.List.{List, [], _∷_}
 use mathlib.Core.Bool.{true, false}
@@ -11,14 +11,14 @@ use Rattle.answers.specs.Checks.{firstOf, Passes}
 use Rattle.answers.proofs.InOrder.{none-of, says-passes, passes-says}
 use Rattle.counts.specs.Counts.{N}
 use Rattle.tables.specs.Largest.{largestRadius}
-use Rattle.tables.specs.Usable.{lengthOutside, tooMany, shellChecks, IsUsable}
+use Rattle.tables.specs.Usable.{lengthOutside, mostPoints, tooMany, shellChecks, IsUsable}
 use Rattle.tables.proofs.Largest.{usable-up-to, unusable-past}
 
 -- refusal 3 is judged at 2^32 exactly
-past-limit : (n : ℕ) → 2 ^ 32 < n → tooMany n ≡ true
+past-limit : (n : ℕ) → mostPoints < n → tooMany n ≡ true
 past-limit n h = lt-ltb _ n (omega arith)
 
-within-limit : (n : ℕ) → n ≤ 2 ^ 32 → tooMany n ≡ false
+within-limit : (n : ℕ) → n ≤ mostPoints → tooMany n ≡ false
 within-limit n h = le-ltb _ n (omega arith)
 
 module _ (l k : ℕ) (answer : List ℕ) where
@@ -50,7 +50,7 @@ passes-usable l k p =
       length-from = inside .0;
       length-to = inside .1;
       radius-to = ltb-false 32 k (p .1 .0);
-      points-to = ltb-false (2 ^ 32) (N l k) (p .1 .1 .0);
+      points-to = ltb-false mostPoints (N l k) (p .1 .1 .0);
     }
 
 -- the checks let the shell through: then all pass

@@ -6,9 +6,9 @@ use mathlib.Core.List.{List, [], _∷_, _++_}
 use mathlib.Core.Bool.{true, false}
 use lib.ListN.{take, drop}
 use Rattle.answers.specs.Checks.{firstOf}
-use Rattle.tables.specs.Usable.{shellChecks}
+use Rattle.tables.specs.Usable.{tooMany, shellChecks}
 use Rattle.tables.specs.Row.{lengthOf, radiiOf, radiusAt, stepOf, placesOf, badRow}
-use Rattle.tables.specs.Table.{checkSays, rowOf}
+use Rattle.tables.specs.Table.{checkSays, noSuchPlace, rowOf}
 
 abbrev pub wholeCase : List ℕ
 wholeCase = 3 ∷ 2 ∷ 0 ∷ 2 ∷ 0 ∷ 0 ∷ 0 ∷ 0 ∷ 0 ∷ 0 ∷ 1 ∷ 0 ∷ 0 ∷ 2 ∷ 0 ∷ 0 ∷ []
@@ -46,16 +46,28 @@ pub record Example : Type 0 where
   pub good-1 : badRow twoRows 1 ≡ false
   pub no-step : badRow (take 10 wholeCase ++ 0 ∷ 0 ∷ 0 ∷ 2 ∷ 0 ∷ 0 ∷ []) 0 ≡ true
   pub no-places : badRow (take 12 wholeCase ++ 0 ∷ 0 ∷ 0 ∷ 0 ∷ []) 0 ≡ true
-  -- each other fault by itself: length 17; nine radii; a first radius that is 1; two that are equal; one past the largest of length 16, which is
-  -- good; one beyond the number of radii; a byte 15 that is not 0
+  -- the smallest step, number of places and length are good
+  pub step-of-1 : badRow (take 10 wholeCase ++ 0 ∷ 1 ∷ drop 12 wholeCase) 0 ≡ false
+  pub one-place : badRow (ofPlaces 0 1) 0 ≡ false
+  pub length-of-1 : badRow (1 ∷ drop 1 wholeCase) 0 ≡ false
+  -- each other fault by itself: length 0 and 17; no radii, and nine; a first radius that is 1; two that are equal, the last two of eight among them;
+  -- one above 32; one past the largest of length 16, which is good; one beyond the number of radii; a byte 14 or 15 that is not 0
+  pub no-length : badRow (0 ∷ drop 1 wholeCase) 0 ≡ true
   pub length-17 : badRow (17 ∷ drop 1 wholeCase) 0 ≡ true
+  pub no-radii : badRow (3 ∷ 0 ∷ 0 ∷ 0 ∷ drop 4 wholeCase) 0 ≡ true
   pub nine-radii : badRow (3 ∷ 9 ∷ drop 2 fullRow) 0 ≡ true
   pub first-radius-1 : badRow (3 ∷ 2 ∷ 1 ∷ drop 3 wholeCase) 0 ≡ true
   pub equal-radii : badRow (3 ∷ 3 ∷ 0 ∷ 2 ∷ 2 ∷ drop 5 wholeCase) 0 ≡ true
+  pub last-equal : badRow (take 9 fullRow ++ 20 ∷ drop 10 fullRow) 0 ≡ true
+  pub radius-33 : badRow (1 ∷ 2 ∷ 0 ∷ 33 ∷ drop 4 wholeCase) 0 ≡ true
   pub past-largest : badRow (16 ∷ 2 ∷ 0 ∷ 13 ∷ drop 4 wholeCase) 0 ≡ true
   pub at-largest : badRow (16 ∷ 2 ∷ 0 ∷ 12 ∷ drop 4 wholeCase) 0 ≡ false
   pub unused-radius : badRow (take 4 wholeCase ++ 2 ∷ drop 5 wholeCase) 0 ≡ true
+  pub byte-14 : badRow (take 14 wholeCase ++ 1 ∷ 0 ∷ []) 0 ≡ true
   pub byte-15 : badRow (take 15 wholeCase ++ 1 ∷ []) 0 ≡ true
+  -- a shell of 2^32 points is within the limit, and one of a point more is not; no shell has either number of points
+  pub most-points : tooMany 4294967296 ≡ false
+  pub too-many : tooMany 4294967297 ≡ true
   -- of a length and a radius that are both at fault, the length is told
   pub length-first : firstOf (shellChecks 0 33) (0 ∷ []) ≡ 1 ∷ []
   -- tables, and the first of their rows that is bad
@@ -66,13 +78,18 @@ pub record Example : Type 0 where
   pub row-of-1 : rowOf twoRows 1 ≡ 0
   pub row-of-2 : rowOf twoRows 2 ≡ 1
   pub row-of-261 : rowOf twoRows 261 ≡ 1
-  -- no table at all; half a row too many; a second row that is bad, its bytes one place along
+  -- the last place of all, and one more
+  pub place-261 : noSuchPlace twoRows 261 ≡ false
+  pub place-262 : noSuchPlace twoRows 262 ≡ true
+  -- no table at all; half a row too many; a second row that is bad, its bytes one place along; two that are bad
   pub none : checkSays [] ≡ 7 ∷ 0 ∷ []
   pub half-more : checkSays (wholeCase ++ take 8 wholeCase) ≡ 7 ∷ 0 ∷ []
   pub one-along : checkSays (wholeCase ++ drop 1 wholeCase ++ 0 ∷ []) ≡ 7 ∷ 1 ∷ []
-  -- 4,096 places, and one more
+  pub two-bad : checkSays (again 2 (17 ∷ drop 1 wholeCase)) ≡ 7 ∷ 0 ∷ []
+  -- 4,096 places, and one more, in one row and at the second
   pub at-the-limit : checkSays (ofPlaces 16 0) ≡ 0 ∷ 4096 ∷ []
   pub past-the-limit : checkSays (ofPlaces 16 1) ≡ 7 ∷ 0 ∷ []
+  pub past-at-row-1 : checkSays (ofPlaces 16 0 ++ wholeCase) ≡ 7 ∷ 1 ∷ []
   -- 32 rows, and one more
   pub rows-32 : checkSays (again 32 wholeCase) ≡ 0 ∷ 64 ∷ []
   pub rows-33 : checkSays (again 33 wholeCase) ≡ 7 ∷ 0 ∷ []

@@ -7,6 +7,7 @@ use mathlib.Core.Bool.{Bool, false, not, _||_}
 use lib.Dec.{eqb, leb, ltb}
 use lib.ListN.{length, getD}
 use Rattle.answers.specs.Checks.{pick, anyOf, failsOf}
+use Rattle.octets.specs.Octets.{fromHigh}
 use Rattle.tables.specs.Usable.{lengthOutside, shellChecks, IsUsable}
 
 -- how many rows there are: 16 bytes each
@@ -19,7 +20,7 @@ byteOf t r j = getD t (16 * r + j) 0
 
 -- a number of two bytes, high byte first, from byte j on
 abbrev pub pairOf : List ℕ → ℕ → ℕ → ℕ
-pairOf t r j = 256 * byteOf t r j + byteOf t r (1 + j)
+pairOf t r j = fromHigh (byteOf t r j ∷ byteOf t r (1 + j) ∷ [])
 
 -- 0: length
 abbrev pub lengthOf : List ℕ → ℕ → ℕ

@@ -15,9 +15,13 @@ lengthOutside l = anyOf (ltb l 1 ∷ ltb 16 l ∷ [])
 abbrev pub radiusAbove : ℕ → Bool
 radiusAbove k = ltb 32 k
 
+-- a shell is usable only if N is at most 2^32
+abbrev pub mostPoints : ℕ
+mostPoints = 2 ^ 32
+
 -- 3: N above 2^32. It is said of any total.
 abbrev pub tooMany : ℕ → Bool
-tooMany n = ltb (2 ^ 32) n
+tooMany n = ltb mostPoints n
 
 -- the checks of a shell, in the order of count, of index and of point: 1, 2, 3
 abbrev pub shellChecks : ℕ → ℕ → List Check
@@ -32,4 +36,4 @@ pub record IsUsable (l k : ℕ) : Type 0 where
   pub length-from : 1 ≤ l
   pub length-to : l ≤ 16
   pub radius-to : k ≤ 32
-  pub points-to : N l k ≤ 2 ^ 32
+  pub points-to : N l k ≤ mostPoints

@@ -1,22 +1,25 @@
--- The point of a vector: it is on the shell of its radius, a coordinate is 0 or has its coefficient's sign, and a coefficient that becomes 0 gives
--- 0. A radius above 0 asks that not all coefficients become 0. Assumes nothing.
+-- The point of a vector: it is on the shell of its radius, its magnitudes are shared out by largest remainders, a coordinate is 0 or has its
+-- coefficient's sign, and a coefficient that becomes 0 gives 0; no other point is so. A radius above 0 asks that not all coefficients become 0. Assumes
+-- nothing.
 use Prim.Native.Nat.{ℕ, zero, suc, _<_}
-use mathlib.Core.Path.{_≡_, refl, ap, _∙_}
-use mathlib.Core.List.{List, [], _∷_}
+use mathlib.Core.Path.{_≡_, refl, sym, ap, _∙_}
+use mathlib.Core.List.{List, [], _∷_, map}
 use mathlib.Core.Bool.{Bool, true, false}
 use mathlib.Core.Logic.{_⊎_, inl, inr}
 use native.Mathlib.Omega.{arith}
 use lib.Ieee.{Float, nan}
-use lib.IntN.{pos}
+use lib.IntN.{ℤ, pos, negsuc, natAbs}
 use lib.ListN.{length, getD, length-map}
+use lib.Seq.{ext-getD}
 use Rattle.enumeration.specs.Point.{sumOf, radiusOf, OnShell, signed, isNegative}
 use Rattle.enumeration.proofs.Spread.{signed-magnitude}
 use Rattle.floats.specs.Units.{negative}
 use Rattle.floats.specs.Nearest.{nearestWhole}
 use Rattle.shares.specs.Shares.{shared}
-use Rattle.vectors.specs.Points.{magnitudesOf, totalOf, signedBy, pointOf}
+use Rattle.vectors.specs.Points.{magnitudesOf, totalOf, signedBy, pointOf, IsPointOf}
 use Rattle.shares.proofs.Filling.{read-map}
 use Rattle.shares.proofs.Sharing.{shared-length, shared-sum, shared-zero}
+use Rattle.shares.proofs.Remainders.{shared-is, shared-only}
 
 pub signed-length : (xs : List Float) (parts : List ℕ) → length parts ≡ length xs → length (signedBy xs parts) ≡ length xs
 signed-length [] parts same = refl
@@ -30,11 +33,11 @@ signed-at (x ∷ xs) [] i h same = absurd (omega arith)
 signed-at (x ∷ xs) (p ∷ parts) zero h same = refl
 signed-at (x ∷ xs) (p ∷ parts) (suc i) h same = signed-at xs parts i (omega arith) (omega arith)
 
-signed-radius : (xs : List Float) (parts : List ℕ) → length parts ≡ length xs → radiusOf (signedBy xs parts) ≡ sumOf parts
-signed-radius [] [] same = refl
-signed-radius [] (i ∷ parts) same = absurd (omega arith)
-signed-radius (x ∷ xs) [] same = absurd (omega arith)
-signed-radius (x ∷ xs) (i ∷ parts) same = rw (signed-magnitude (negative x) i, signed-radius xs parts (omega arith))
+signed-magnitudes : (xs : List Float) (parts : List ℕ) → length parts ≡ length xs → map natAbs (signedBy xs parts) ≡ parts
+signed-magnitudes [] [] same = refl
+signed-magnitudes [] (i ∷ parts) same = absurd (omega arith)
+signed-magnitudes (x ∷ xs) [] same = absurd (omega arith)
+signed-magnitudes (x ∷ xs) (i ∷ parts) same = rw (signed-magnitude (negative x) i, signed-magnitudes xs parts (omega arith))
 
 -- a coordinate by its sign and magnitude is 0, or its sign is that
 pub zero-or-signed : (b : Bool) (i : ℕ) → (signed b i ≡ pos 0) ⊎ (isNegative (signed b i) ≡ b)
@@ -53,7 +56,7 @@ module _ (k : ℕ) (xs : List Float) where
   pub point-on-shell : (0 < k → 0 < totalOf xs) → OnShell (length xs) k (pointOf k xs)
   point-on-shell some = record {
     of-length = signed-length xs (shared k (magnitudesOf xs)) long;
-    of-radius = signed-radius xs (shared k (magnitudesOf xs)) long ∙ shared-sum k (magnitudesOf xs) some;
+    of-radius = ap sumOf (signed-magnitudes xs (shared k (magnitudesOf xs)) long) ∙ shared-sum k (magnitudesOf xs) some;
   }
 
   -- each coordinate is 0 or has its coefficient's sign
@@ -67,3 +70,34 @@ module _ (k : ℕ) (xs : List Float) where
       signed-at xs (shared k (magnitudesOf xs)) i h long
       ∙ ap (λ (n : ℕ). signed (negative (getD xs i nan)) n) (shared-zero k (magnitudesOf xs) i some (read-map nearestWhole xs i nan 0 h ∙ none))
       ∙ signed-none (negative (getD xs i nan))
+
+  -- it is the point of the vector
+  pub point-is : (0 < k → 0 < totalOf xs) → IsPointOf k xs (pointOf k xs)
+  point-is some = record {
+    magnitudes = rw (signed-magnitudes xs (shared k (magnitudesOf xs)) long) (shared-is k (magnitudesOf xs) some);
+    signs = coordinate-sign;
+  }
+
+-- a coordinate is told by its magnitude and its sign
+told-by : (b : Bool) (c : ℤ) → (c ≡ pos 0) ⊎ (isNegative c ≡ b) → c ≡ signed b (natAbs c)
+told-by b c (inl none) = rw none (sym (signed-none b))
+told-by b (pos i) (inr sign) = rw (← sign) refl
+told-by b (negsuc i) (inr sign) = rw (← sign) refl
+
+-- and no other is
+pub point-only : (k : ℕ) (xs : List Float) (q q′ : List ℤ) → IsPointOf k xs q → IsPointOf k xs q′ → q ≡ q′
+point-only k xs q q′ is is′ = ext-getD (pos 0) q q′ (long-as q is ∙ sym (long-as q′ is′)) (λ i h. at i (omega (arith, long-as q is)))
+  where
+    long-as : (p : List ℤ) → IsPointOf k xs p → length p ≡ length xs
+    long-as p it = sym (length-map p natAbs) ∙ it .magnitudes .as-long ∙ length-map xs nearestWhole
+
+    magnitude-at : (p : List ℤ) → IsPointOf k xs p → (i : ℕ) → i < length xs → getD (map natAbs p) i 0 ≡ natAbs (getD p i (pos 0))
+    magnitude-at p it i h = read-map natAbs p i (pos 0) 0 (omega (arith, long-as p it))
+
+    at : (i : ℕ) → i < length xs → getD q i (pos 0) ≡ getD q′ i (pos 0)
+    at i h =
+        let b = negative (getD xs i nan) in
+        let same : map natAbs q ≡ map natAbs q′ = shared-only k (magnitudesOf xs) (map natAbs q) (map natAbs q′) (is .magnitudes) (is′ .magnitudes) in
+        told-by b (getD q i (pos 0)) (is .signs i h)
+        ∙ ap (signed b) (sym (magnitude-at q is i h) ∙ ap (λ (ns : List ℕ). getD ns i 0) same ∙ magnitude-at q′ is′ i h)
+        ∙ sym (told-by b (getD q′ i (pos 0)) (is′ .signs i h))

@@ -17,6 +17,7 @@ ghost use lib.ListN.{length};
 ghost use Rattle.counts.specs.Counts.{N};
 ghost use Rattle.enumeration.proofs.Product.{product};
 ghost use Rattle.tables.specs.Usable.{IsUsable};
+ghost use Rattle.records.specs.Record.{recordLength};
 ghost use Rattle.rules.specs.Cell.{cellLength};
 ghost use Rattle.rules.specs.Judging as rules;
 ghost use Rattle.rules.specs.Judging.{judgeCodeword, judgeRecord};
@@ -54,7 +55,7 @@ fn judge_codeword(length: Length, radius: Radius, n: u64) -> Judged
 
 // A held record.
 fn judge_record(table: &[u8], row: usize, bytes: &[u8]) -> Judged
-    requires { ⌜ InTable (now table) row × (length (now bytes) ≡ 8) ⌝ }
+    requires { ⌜ InTable (now table) row × (length (now bytes) ≡ recordLength) ⌝ }
     ensures { λ r. ⌜ r ≡ judgeRecord product (now (table .entry)) row (now (bytes .entry)) ⌝ }
 {
     if row_in(bytes) != row {

@@ -4,6 +4,7 @@ ghost use mathlib.Core.Path.{_≡_};
 ghost use mathlib.Core.List.{_∷_};
 ghost use Prim.Native.Nat.{_*_, _≤_};
 ghost use lib.ListN.{length};
+ghost use Rattle.records.specs.Record.{recordLength};
 ghost use Rattle.rules.specs.Cell.{cellLength, sameBytes};
 ghost use Rattle.rules.specs.Taking.{badCell, arriveCell, takeCell};
 
@@ -47,7 +48,7 @@ fn same(a: &[u8], b: &[u8]) -> bool
 
 // A state and a record into the cell.
 fn fill(state: u8, bytes: &[u8], cell: &mut [u8])
-    requires { ⌜ (length (now bytes) ≡ 8) × (length (now cell) ≡ cellLength) ⌝ }
+    requires { ⌜ (length (now bytes) ≡ recordLength) × (length (now cell) ≡ cellLength) ⌝ }
     ensures { λ _. ⌜ now (cell .exit) ≡ state ∷ now (bytes .entry) ⌝ }
 {
     cell[0] = state;
@@ -60,7 +61,7 @@ fn fill(state: u8, bytes: &[u8], cell: &mut [u8])
 
 // The page rule: empty becomes held, held with other bytes becomes contested, and otherwise the cell stays.
 fn take_cell(bytes: &[u8], cell: &mut [u8])
-    requires { ⌜ (length (now bytes) ≡ 8) × (length (now cell) ≡ cellLength) ⌝ }
+    requires { ⌜ (length (now bytes) ≡ recordLength) × (length (now cell) ≡ cellLength) ⌝ }
     ensures { λ _. ⌜ now (cell .exit) ≡ takeCell (now (bytes .entry)) (now (cell .entry)) ⌝ }
 {
     let state = cell[0];
@@ -80,7 +81,7 @@ fn take_cell(bytes: &[u8], cell: &mut [u8])
 
 // A record into the cell of its place, unless refusal 12 is given for it; whether it is given.
 pub fn arrive(place: usize, bytes: &[u8], cell: &mut [u8]) -> bool
-    requires { ⌜ (length (now bytes) ≡ 8) × (length (now cell) ≡ cellLength) ⌝ }
+    requires { ⌜ (length (now bytes) ≡ recordLength) × (length (now cell) ≡ cellLength) ⌝ }
     ensures { λ b. ⌜ (b ≡ badCell place (now (cell .entry))) × (now (cell .exit) ≡ arriveCell place (now (bytes .entry)) (now (cell .entry))) ⌝ }
 {
     if bad_cell(place, cell) {

@@ -4,16 +4,20 @@ use answers::Refusal;
 use cells::inner::rule::arrive;
 use cells::inner::rule::start;
 use records::inner::place_in;
+ghost use mathlib.Core.List.{[], _∷_};
 ghost use mathlib.Core.Path.{_≡_};
 ghost use Prim.Native.Nat.{_+_, _/_, _≤_, _<_, min};
-ghost use Rattle.rules.specs.Taking.{wrongLengths, takeSaysIn, takeLeavesIn, refusals, takeLeaves, collected};
+ghost use Rattle.answers.specs.Checks.{anyOf};
+ghost use Rattle.records.specs.Record.{wrongRecord};
+ghost use Rattle.rules.specs.Cell.{wrongPage};
+ghost use Rattle.rules.specs.Taking.{takeSaysIn, takeLeavesIn, refusals, takeLeaves, collected};
 ghost use Rattle.places.specs.Bounds.{Sized};
 ghost use Rattle.page.specs.Meanings.{takeMeaning};
 
 // Whether the record is not 8 bytes, or the page not 9 for each place.
 fn wrong_lengths(places: usize, page: usize, bytes: usize) -> bool
     requires { ⌜ places ≤ 4096 ⌝ }
-    ensures { λ b. ⌜ b ≡ wrongLengths places page bytes ⌝ }
+    ensures { λ b. ⌜ b ≡ anyOf (wrongRecord bytes ∷ wrongPage places page ∷ []) ⌝ }
 {
     if bytes != 8 {
         return true;

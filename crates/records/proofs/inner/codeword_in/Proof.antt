@@ -1,7 +1,7 @@
 -- `records::inner::codeword_in` is the number of the last four bytes, two by two. Assumes nothing.
 use native.Mathlib.Omega.{arith}
 use borrow.Author.Needs.{needs}
-use Rattle.records.proofs.Reading.{four-bytes}
+use Rattle.octets.proofs.Reading.{four-bytes}
 use Rattle.records.proofs.inner.codeword_in.Statement.{statement}
 use Rattle.records.proofs.inner.codeword_in.Tie as tie
 

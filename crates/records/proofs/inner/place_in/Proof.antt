@@ -1,7 +1,7 @@
 -- `records::inner::place_in` is the number of the first two bytes. Assumes nothing.
 use native.Mathlib.Omega.{arith}
 use borrow.Author.Needs.{needs}
-use Rattle.records.proofs.Reading.{two-bytes}
+use Rattle.octets.proofs.Reading.{two-bytes}
 use Rattle.records.proofs.inner.place_in.Statement.{statement}
 use Rattle.records.proofs.inner.place_in.Tie as tie
 

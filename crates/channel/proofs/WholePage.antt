@@ -1,0 +1,13 @@
+-- Demand 3 as the order words it, of a whole page: from a, c and d. Assumes nothing.
+use mathlib.Core.Path.{ap}
+use Rattle.rules.specs.Taking.{Received, empty}
+use Rattle.channel.specs.Demand3.{WholePage}
+use Rattle.channel.proofs.AnyOrder.{any-order}
+use Rattle.channel.proofs.Sent.{shown-as-sent, only-signs-change}
+
+pub whole-page : WholePage
+whole-page t good w r q sent xs = record {
+  any-order = λ ys steps. ap (λ (s : Received). s .page) (any-order t (empty t) xs ys steps);
+  unchanged = λ p h among equal. shown-as-sent t p (w p) (r p) (q p) (sent p h) xs among equal;
+  signs-changed = λ p h codeword same among equal. only-signs-change t p (w p) (r p) (q p) (sent p h) codeword same xs among equal;
+}

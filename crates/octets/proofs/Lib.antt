@@ -1,0 +1,3 @@
+pub mod Back
+pub mod Example
+pub mod Reading

@@ -1,0 +1,22 @@
+-- A record in which every byte differs from the others, written and read: another order of the fields, or another size of one, disagrees.
+-- proofs/Example.antt computes every line. Assumes nothing.
+use Prim.Native.Nat.{ℕ}
+use mathlib.Core.Path.{_≡_}
+use mathlib.Core.List.{List, [], _∷_}
+use mathlib.Core.Bool.{true, false}
+use Rattle.records.specs.Record.{recordOf, placeIn, rowIn, numberIn, codewordIn, wrongRecord}
+
+abbrev pub bytes : List ℕ
+bytes = 1 ∷ 2 ∷ 3 ∷ 4 ∷ 5 ∷ 6 ∷ 7 ∷ 8 ∷ []
+
+pub record Example : Type 0 where
+  -- place 1 x 256 + 2, row 3, radius number 4, and the codeword of the bytes 5 to 8
+  pub written : recordOf 258 3 4 84281096 ≡ bytes
+  pub place : placeIn bytes ≡ 258
+  pub row : rowIn bytes ≡ 3
+  pub number : numberIn bytes ≡ 4
+  pub codeword : codewordIn bytes ≡ 84281096
+  -- 7 and 9 bytes are no record
+  pub short : wrongRecord 7 ≡ true
+  pub right : wrongRecord 8 ≡ false
+  pub long : wrongRecord 9 ≡ true
