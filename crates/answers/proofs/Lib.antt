@@ -2,3 +2,4 @@ pub mod OneToOne
 pub mod InOrder
 pub mod Each
 pub mod OneNumber
+pub mod Example

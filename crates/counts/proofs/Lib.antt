@@ -6,3 +6,4 @@ pub mod Volume
 pub mod Ranges
 pub mod Widths
 pub mod Growth
+pub mod Example

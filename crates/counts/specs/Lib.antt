@@ -1,3 +1,4 @@
 pub mod Counts
 pub mod Triangle
 pub mod Width
+pub mod Example

@@ -7,4 +7,25 @@ use Rattle.enumeration.specs.Reading.{rangeFrom, rangeOf, patternOf, fir
 
 pub example : Example
 unfolding binomial D S B sumAfter rangeSize rangeStart patternIndex shapeOffset shapeIndex signIndex weigh productIndex rangeFrom rangeOf patternOf firstMagnitude shapeLeft shapeOf signsOf pointFrom pointIn productPoint
-example = record { read = refl; indexed = refl; turned = refl }
+example =
+    record {
+      patterns-read = refl;
+      patterns-indexed = refl;
+      shapes-read = refl;
+      shapes-indexed = refl;
+      signs-indexed = refl;
+      signs-read = refl;
+      read = refl;
+      indexed = refl;
+      index-18 = refl;
+      index-90 = refl;
+      index-133 = refl;
+      index-202 = refl;
+      index-317 = refl;
+      index-355 = refl;
+      point-133 = refl;
+      point-317 = refl;
+      index-none = refl;
+      point-none = refl;
+      turned = refl;
+    }

@@ -1,12 +1,13 @@
--- The enumeration in small: all 18 points of length 3 and radius 2, in the order of their indices. With two nonzero coordinates, from 0 on,
+-- The enumeration in small: the patterns, the shapes, and all 18 points of length 3 and radius 2, in the order of their indices. With two nonzero coordinates, from 0 on,
 -- there are three patterns, 0xx, x0x and xx0, one shape, 1 1, and four signs of each; with one, from 12 on, there are the patterns 00x, 0x0
 -- and x00, the shape 2, and two signs of each. proofs/Example.antt computes it. Assumes nothing.
 use Prim.Native.Nat.{ℕ, zero, suc}
 use mathlib.Core.Path.{_≡_}
 use mathlib.Core.List.{List, [], _∷_, map}
+use mathlib.Core.Bool.{Bool, true, false}
 use lib.IntN.{ℤ, pos, negℤ}
-use Rattle.enumeration.specs.Product.{productIndex}
-use Rattle.enumeration.specs.Reading.{productPoint}
+use Rattle.enumeration.specs.Product.{patternIndex, shapeIndex, signIndex, productIndex}
+use Rattle.enumeration.specs.Reading.{patternOf, shapeOf, signsOf, productPoint}
 use Rattle.enumeration.specs.Signs.{flipped}
 
 abbrev pub triple : ℤ → ℤ → ℤ → List ℤ
@@ -34,13 +35,54 @@ points-3-2 =
     ∷ triple (negℤ (pos 2)) (pos 0) (pos 0)
     ∷ []
 
+-- the six patterns of two nonzero coordinates among four, and the six shapes of three magnitudes that sum to 5
+abbrev pub pattern : Bool → Bool → Bool → Bool → List Bool
+pattern a b c d = a ∷ b ∷ c ∷ d ∷ []
+
+abbrev pub patterns-2-4 : List (List Bool)
+patterns-2-4 =
+    pattern false false true true
+    ∷ pattern false true false true
+    ∷ pattern false true true false
+    ∷ pattern true false false true
+    ∷ pattern true false true false
+    ∷ pattern true true false false
+    ∷ []
+
+abbrev pub shape : ℕ → ℕ → ℕ → List ℕ
+shape a b c = a ∷ b ∷ c ∷ []
+
+abbrev pub shapes-3-5 : List (List ℕ)
+shapes-3-5 = shape 1 1 3 ∷ shape 1 2 2 ∷ shape 1 3 1 ∷ shape 2 1 2 ∷ shape 2 2 1 ∷ shape 3 1 1 ∷ []
+
 -- i, i+1, .., n of them
 abbrev pub from : ℕ → ℕ → List ℕ
 from i zero = []
 from i (suc n) = i ∷ from (suc i) n
 
 pub record Example : Type 0 where
+  -- patterns, shapes and signs by themselves
+  pub patterns-read : map (patternOf 2 4) (from 0 6) ≡ patterns-2-4
+  pub patterns-indexed : map patternIndex patterns-2-4 ≡ from 0 6
+  pub shapes-read : map (shapeOf 3 5) (from 0 6) ≡ shapes-3-5
+  pub shapes-indexed : map shapeIndex shapes-3-5 ≡ from 0 6
+  pub signs-indexed : signIndex (true ∷ false ∷ false ∷ []) ≡ 4
+  pub signs-read : signsOf 3 4 ≡ true ∷ false ∷ false ∷ []
+  -- all points of length 3 and radius 2
   pub read : map (productPoint 3 2) (from 0 18) ≡ points-3-2
   pub indexed : map productIndex points-3-2 ≡ from 0 18
+  -- points of length 4 and radius 5, where patterns, shapes and signs all vary: 360 points, with 4, 3, 2 and 1 nonzero coordinates from 0, 64, 256 and
+  -- 352 on
+  pub index-18 : productIndex (pos 1 ∷ pos 1 ∷ negℤ (pos 2) ∷ pos 1 ∷ []) ≡ 18
+  pub index-90 : productIndex (pos 0 ∷ pos 2 ∷ negℤ (pos 1) ∷ pos 2 ∷ []) ≡ 90
+  pub index-133 : productIndex (negℤ (pos 1) ∷ pos 0 ∷ pos 3 ∷ negℤ (pos 1) ∷ []) ≡ 133
+  pub index-202 : productIndex (pos 3 ∷ negℤ (pos 1) ∷ pos 0 ∷ pos 1 ∷ []) ≡ 202
+  pub index-317 : productIndex (pos 4 ∷ pos 0 ∷ pos 0 ∷ negℤ (pos 1) ∷ []) ≡ 317
+  pub index-355 : productIndex (pos 0 ∷ pos 0 ∷ negℤ (pos 5) ∷ pos 0 ∷ []) ≡ 355
+  pub point-133 : productPoint 4 5 133 ≡ negℤ (pos 1) ∷ pos 0 ∷ pos 3 ∷ negℤ (pos 1) ∷ []
+  pub point-317 : productPoint 4 5 317 ≡ pos 4 ∷ pos 0 ∷ pos 0 ∷ negℤ (pos 1) ∷ []
+  -- at radius 0 the one point is all zeros
+  pub index-none : productIndex (pos 0 ∷ pos 0 ∷ []) ≡ 0
+  pub point-none : productPoint 2 0 0 ≡ pos 0 ∷ pos 0 ∷ []
   -- 5 and 7 differ in bit 1, that of the first coordinate
   pub turned : flipped 5 7 (triple (pos 1) (pos 0) (negℤ (pos 1))) ≡ triple (negℤ (pos 1)) (pos 0) (negℤ (pos 1))

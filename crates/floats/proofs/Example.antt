@@ -1,20 +1,31 @@
 -- Every line of the example holds by computation. Assumes nothing.
 use mathlib.Core.Path.{refl}
-use lib.Ieee.{toBits}
-use Rattle.floats.specs.Units.{ofPattern, unitsOf, unusable}
+use lib.Ieee.{toBits, lt}
+use Rattle.floats.specs.Units.{ofPattern, unitsOf, unusable, negative}
 use Rattle.floats.specs.Nearest.{nearestWhole}
 use Rattle.floats.specs.Example.{Example}
 
 pub example : Example
-unfolding ofPattern unitsOf unusable nearestWhole toBits
-example = record {
-  whole-1 = refl;
-  whole-3 = refl;
-  whole-5 = refl;
-  whole-largest = refl;
-  largest-usable = refl;
-  limit-refused = refl;
-  zero = refl;
-  negative-zero = refl;
-  one = refl;
-}
+unfolding ofPattern unitsOf unusable negative nearestWhole toBits lt
+example =
+    record {
+      whole-1 = refl;
+      whole-3 = refl;
+      whole-5 = refl;
+      whole-largest = refl;
+      largest-usable = refl;
+      limit-refused = refl;
+      negative-limit-refused = refl;
+      nan-refused = refl;
+      infinity-refused = refl;
+      negative-infinity-refused = refl;
+      below-zero = refl;
+      above-zero = refl;
+      zero-not-below = refl;
+      negative-zero-not-below = refl;
+      zero = refl;
+      negative-zero = refl;
+      one = refl;
+      smallest = refl;
+      smallest-becomes = refl;
+    }

@@ -3,9 +3,9 @@
 use Prim.Native.Nat.{ℕ, _-_, _^_}
 use mathlib.Core.Path.{_≡_}
 use mathlib.Core.Bool.{Bool, true, false}
-use lib.Ieee.{Float, fin}
+use lib.Ieee.{Float, nan, inf, fin}
 use lib.IntN.{pos, negsuc}
-use Rattle.floats.specs.Units.{unitsOf, unusable}
+use Rattle.floats.specs.Units.{unitsOf, unusable, negative}
 use Rattle.floats.specs.Nearest.{nearestWhole}
 
 -- n / 512, negative where s is true, by an odd n
@@ -21,7 +21,18 @@ pub record Example : Type 0 where
   pub whole-largest : nearestWhole (over512 false (2 ^ 24 - 1)) ≡ 8388608
   pub largest-usable : unusable (over512 true (2 ^ 24 - 1)) ≡ false
   pub limit-refused : unusable (fin false 1 (pos 15)) ≡ true
-  -- both zeros give 0, and 1 is 2^149 over 2^149
+  pub negative-limit-refused : unusable (fin true 1 (pos 15)) ≡ true
+  pub nan-refused : unusable nan ≡ true
+  pub infinity-refused : unusable (inf false) ≡ true
+  pub negative-infinity-refused : unusable (inf true) ≡ true
+  -- a sign is below zero, which neither zero is
+  pub below-zero : negative (over512 true 1) ≡ true
+  pub above-zero : negative (over512 false 1) ≡ false
+  pub zero-not-below : negative (fin false 0 (pos 0)) ≡ false
+  pub negative-zero-not-below : negative (fin true 0 (pos 0)) ≡ false
+  -- both zeros give 0, and 1 is 2^149 over 2^149, the smallest f32 above 0 is 1 over it
   pub zero : nearestWhole (fin false 0 (pos 0)) ≡ 0
   pub negative-zero : nearestWhole (fin true 0 (pos 0)) ≡ 0
   pub one : unitsOf (fin false 1 (pos 0)) ≡ 2 ^ 149
+  pub smallest : unitsOf (fin true 1 (negsuc 148)) ≡ 1
+  pub smallest-becomes : nearestWhole (fin true 1 (negsuc 148)) ≡ 0

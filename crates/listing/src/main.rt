@@ -7,9 +7,8 @@ mod output;
 use cells::inner::rule::start;
 use input::read_table;
 use input::take_records;
-use output::print_lines;
+use output::print_page;
 use output::print_refused;
-use output::print_tally;
 use pairing::Checked;
 use pairing::check;
 ghost use Prim.Native.Nat.{_≤_};
@@ -22,9 +21,7 @@ fn list(table: &[u8], places: usize)
     let size = start(places);
     let page = &mut room[..size];
     let refused = take_records(table, page);
-    if print_lines(table, page, places) {
-        print_tally(table, page, refused);
-    }
+    print_page(table, page, places, refused);
 }
 
 fn main() {

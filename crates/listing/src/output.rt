@@ -18,29 +18,29 @@ fn put(text: &[u8]) -> bool {
     written
 }
 
-// Prints the lines of the places.
-pub fn print_lines(table: &[u8], page: &[u8], places: usize) -> bool {
+// Prints the page: the lines of its places, and the last line.
+pub fn print_page(table: &[u8], page: &[u8], places: usize, refused: u64) {
     let mut out = io::large_buffer();
     let mut from = 0;
     while from < places {
         match lines(table, page, from, &mut out) {
             Listed::Written { to, size } => {
                 if !put(&out[..size]) {
-                    return false;
+                    return;
                 }
                 from = to;
             }
             Listed::Refused(refusal) => {
                 print_refused(refusal);
-                return false;
+                return;
             }
         }
     }
-    true
+    print_tally(table, page, refused);
 }
 
 // Prints the last line.
-pub fn print_tally(table: &[u8], page: &[u8], refused: u64) {
+fn print_tally(table: &[u8], page: &[u8], refused: u64) {
     match tally(table, page) {
         Tallied::Counted(counts) => {
             let mut out = [0u8; 256];

@@ -51,7 +51,17 @@ module _ {t : List ℕ} {row end p : ℕ} (at-row : AtRow t row end p) where
   pub in-table : InTable t row
   in-table = record { below = at-row .below; row-good = good-row t (at-row .good) row (at-row .below) }
 
-  -- and so on to the next place
+  -- the way begins at it
+  pub walks-here : Walked t row end p
+  walks-here = record {
+    good = at-row .good;
+    below = at-row .below;
+    is-end = at-row .is-end;
+    from = at-row .in-row .from;
+    to = omega (arith, at-row .in-row .to);
+  }
+
+  -- and goes on to the next place
   pub walks-on : Walked t row end (p + 1)
   walks-on = record {
     good = at-row .good;
@@ -75,6 +85,5 @@ unfolding placesBefore
 walks-from {t} sized is-end = record { good = sized .good; below = some-row sized; is-end = is-end ∙ sym (zero-add (placesOf t 0)); from = omega arith; to = omega arith }
 
 -- and the row of any place
-pub walks-in : {t : List ℕ} {row end p : ℕ} → Good t → row < rowsOf t → InRow t p row → end ≡ placesBefore t (row + 1) → Walked t row end p
-walks-in {row = row} good below in-row is-end =
-    record { good = good; below = below; is-end = rw (add-one row) at is-end; from = in-row .from; to = omega (arith, in-row .to) }
+pub at-place : {t : List ℕ} {row end p : ℕ} → Good t → row < rowsOf t → InRow t p row → end ≡ placesBefore t (row + 1) → AtRow t row end p
+at-place {row = row} good below in-row is-end = record { good = good; below = below; is-end = rw (add-one row) at is-end; in-row = in-row }

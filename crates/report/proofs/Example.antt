@@ -1,4 +1,4 @@
--- The listing of document 01's whole case, and of single files beside it, computed. Assumes nothing.
+-- Every line of the example holds by computation. Assumes nothing.
 use mathlib.Core.Path.{refl}
 use Rattle.counts.specs.Counts.{N, binomial, D, S, B, sumAfter, rangeSize, rangeStart}
 use Rattle.counts.specs.Width.{width, bitsFrom}
@@ -15,4 +15,27 @@ use Rattle.report.specs.Example.{Example}
 
 pub example : Example
 unfolding N binomial D S B sumAfter rangeSize rangeStart width bitsFrom rangeFrom rangeOf patternOf firstMagnitude shapeLeft shapeOf signsOf pointFrom pointIn productPoint byteOf badRadius badRadii badRow placesBefore rowsBefore cell setCell badCell takeCell refusals arrive after partsFrom judgeCodeword judgeRecord judge countOf decimal digitsOf linesFrom
-example = record { whole-case = refl; no-records = refl; damaged = refl; bad-table = refl; no-table = refl }
+example =
+    record {
+      whole-case = refl;
+      no-records = refl;
+      damaged = refl;
+      bad-table = refl;
+      no-table = refl;
+      two-lines = refl;
+      one-line = refl;
+      last-place = refl;
+      line-left = refl;
+      lines-7 = refl;
+      lines-8 = refl;
+      lines-4-page = refl;
+      lines-4-room = refl;
+      lines-12 = refl;
+      lines-past-12 = refl;
+      refused-leaves = refl;
+      last-line = refl;
+      line-says = refl;
+      line-leaves = refl;
+      line-4 = refl;
+      line-4-leaves = refl;
+    }

@@ -1,19 +1,18 @@
 -- The table of single values about the definitions: document 01, "Proofs of single values", its starred cases, a line each, with other
 -- values of the document. proofs/Proved.antt computes every line. Assumes nothing.
-use Prim.Native.Nat.{ℕ, _+_, _^_}
+use Prim.Native.Nat.{ℕ, _^_}
 use mathlib.Core.Path.{_≡_}
 use mathlib.Core.Bool.{true, false}
-use mathlib.Core.List.{List, [], _∷_}
+use mathlib.Core.List.{List, [], _∷_, _++_}
 use lib.Bits.{bitXor}
-use lib.Ieee.{nan, fin}
+use lib.Ieee.{Float, nan, fin}
 use lib.IntN.{ℤ, pos, negsuc, negℤ}
-use lib.ListN.{replicate}
+use lib.ListN.{take, replicate}
 use Rattle.counts.specs.Counts.{N}
 use Rattle.counts.specs.Width.{width}
-use Rattle.tables.specs.Usable.{tooMany}
 use Rattle.shell.specs.Shell.{countSays}
 use Rattle.enumeration.specs.Example.{triple}
-use Rattle.tables.specs.Example.{wholeCase}
+use Rattle.tables.specs.Example.{wholeCase, twoRows}
 use Rattle.points.specs.Calls.{indexSays, pointSays, pointLeaves}
 use Rattle.coding.specs.Coded.{pointFor}
 use Rattle.quantizer.specs.Calls.{quantizeSays, quantizeLeaves}
@@ -24,6 +23,10 @@ use Rattle.vectors.specs.Points.{pointOf}
 -- a lent record
 abbrev held : List ℕ
 held = replicate 8 9
+
+-- the vector of document 01 with two zeros behind it
+abbrev longer : List Float
+longer = vector ++ fin false 0 (pos 0) ∷ fin true 0 (pos 0) ∷ []
 
 -- a lent buffer of three coordinates
 abbrev buffer : List ℤ
@@ -38,6 +41,17 @@ pub record Table : Type 0 where
   pub star-index-17 : indexSays 3 2 (triple (negℤ (pos 2)) (pos 0) (pos 0)) ≡ 0 ∷ 17 ∷ []
   pub star-point-18 : pointSays 3 2 18 buffer ≡ 6 ∷ []
   pub buffer-kept : pointLeaves 3 2 18 buffer ≡ buffer
+  pub point-17 : pointLeaves 3 2 17 buffer ≡ triple (negℤ (pos 2)) (pos 0) (pos 0)
+  -- refusals 1 to 6 in their order, with two faults at once: 3 before 4, 4 before 5 and 6, a vector or buffer that is too short or too long
+  pub index-3 : indexSays 16 13 [] ≡ 3 ∷ []
+  pub index-4-short : indexSays 3 2 (pos 1 ∷ []) ≡ 4 ∷ []
+  pub index-4-long : indexSays 3 2 (pos 1 ∷ triple (pos 0) (pos 1) (pos 1)) ≡ 4 ∷ []
+  pub index-5-less : indexSays 3 2 (triple (pos 0) (pos 0) (pos 1)) ≡ 5 ∷ []
+  pub index-5-more : indexSays 3 2 (triple (pos 1) (pos 1) (pos 1)) ≡ 5 ∷ []
+  pub point-3 : pointSays 16 13 0 [] ≡ 3 ∷ []
+  pub point-4-short : pointSays 3 2 18 (take 2 buffer) ≡ 4 ∷ []
+  pub point-4-long : pointSays 3 2 0 (pos 9 ∷ buffer) ≡ 4 ∷ []
+  pub point-6-0 : pointSays 3 0 1 buffer ≡ 6 ∷ []
   -- * length 2, radius 3
   pub star-index-2-3-0 : indexSays 2 3 (pos 1 ∷ pos 2 ∷ []) ≡ 0 ∷ 0 ∷ []
   pub star-index-2-3-5 : indexSays 2 3 (pos 2 ∷ negℤ (pos 1) ∷ []) ≡ 0 ∷ 5 ∷ []
@@ -58,7 +72,8 @@ pub record Table : Type 0 where
   -- a length is never taken for a radius
   pub count-2-3 : N 2 3 ≡ 12
   pub count-3-2 : N 3 2 ≡ 18
-  -- N(16,12) is usable, N(16,13) is refused 3
+  -- a radius of 32 is usable; N(16,12) is usable, N(16,13) is refused 3
+  pub says-1-32 : countSays 1 32 ≡ 0 ∷ 2 ∷ []
   pub says-16-12 : countSays 16 12 ≡ 0 ∷ 3575055360 ∷ []
   pub count-16-13 : N 16 13 ≡ 9832110240
   pub says-16-13 : countSays 16 13 ≡ 3 ∷ []
@@ -67,9 +82,6 @@ pub record Table : Type 0 where
   pub says-17-1 : countSays 17 1 ≡ 1 ∷ []
   pub says-16-33 : countSays 16 33 ≡ 2 ∷ []
   pub says-0-33 : countSays 0 33 ≡ 1 ∷ []
-  -- a shell of 2^32 points is within the limit, and one of a point more is not
-  pub at-the-limit : tooMany (2 ^ 32) ≡ false
-  pub past-the-limit : tooMany (2 ^ 32 + 1) ≡ true
   -- 32,768 is refused 11, and the first coordinate at fault is named
   pub says-beyond : quantizeSays wholeCase 1 (fin true 0 (pos 0) ∷ fin false 1 (pos 15) ∷ nan ∷ []) held ≡ 11 ∷ 1 ∷ []
   -- * row of length 3, radii 0 and 2, step 256: (1.5, 0, -0.75) gives (1,0,-1)
@@ -78,8 +90,24 @@ pub record Table : Type 0 where
   pub record-0 : quantizeLeaves wholeCase 0 vector held ≡ 0 ∷ 0 ∷ 0 ∷ 1 ∷ 0 ∷ 0 ∷ 0 ∷ 5 ∷ []
   pub record-1 : quantizeLeaves wholeCase 1 vector held ≡ 0 ∷ 1 ∷ 0 ∷ 1 ∷ 0 ∷ 0 ∷ 0 ∷ 5 ∷ []
   pub record-kept : quantizeLeaves wholeCase 2 vector held ≡ held
+  -- in the second row, of length 5 and step 775, the sum 576 is nearest to radius 1, of number 1
+  pub record-row-1 : quantizeLeaves twoRows 2 longer held ≡ 0 ∷ 2 ∷ 1 ∷ 1 ∷ 0 ∷ 0 ∷ 0 ∷ 8 ∷ []
+  -- refusals 7, 8, 4 and 11 in their order, with two faults at once; a vector or record that is too short or too long
+  pub quantize-7 : quantizeSays (take 15 wholeCase) 2 [] [] ≡ 7 ∷ 0 ∷ []
+  pub quantize-8 : quantizeSays wholeCase 2 [] [] ≡ 8 ∷ []
+  pub quantize-4-short : quantizeSays wholeCase 0 (nan ∷ []) held ≡ 4 ∷ []
+  pub quantize-4-long : quantizeSays wholeCase 0 longer held ≡ 4 ∷ []
+  pub quantize-4-record-short : quantizeSays wholeCase 0 (nan ∷ nan ∷ nan ∷ []) (take 7 held) ≡ 4 ∷ []
+  pub quantize-4-record-long : quantizeSays wholeCase 0 vector (9 ∷ held) ≡ 4 ∷ []
+  pub quantize-11 : quantizeSays wholeCase 0 (nan ∷ nan ∷ nan ∷ []) held ≡ 11 ∷ 0 ∷ []
+  pub refused-kept : quantizeLeaves wholeCase 0 (nan ∷ nan ∷ nan ∷ []) held ≡ held
   -- * a sum of 256 ties between radii 0 and 2: radius 0
   pub star-tie : chosenRadius wholeCase 0 256 ≡ 0
   pub past-the-tie : chosenRadius wholeCase 0 257 ≡ 2
+  -- with a step of 775: half of it is 387.5; 14 x 775 is 10,850; beyond the last radius there is none
+  pub below-half : chosenRadius twoRows 1 387 ≡ 0
+  pub above-half : chosenRadius twoRows 1 388 ≡ 1
+  pub radius-14 : chosenRadius twoRows 1 10851 ≡ 14
+  pub last-radius : chosenRadius twoRows 1 134217728 ≡ 32
   -- length 2, radius 1, two equal positive coefficients: (1,0)
   pub equal-remainders : pointOf 1 (fin false 1 (negsuc 0) ∷ fin false 1 (negsuc 0) ∷ []) ≡ pos 1 ∷ pos 0 ∷ []

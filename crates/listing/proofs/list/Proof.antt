@@ -25,6 +25,4 @@ list-spec =
     slice-aggregate-page
     (λ c κs. search needs)
     (λ c κs. search needs)
-    (λ c κs. search needs)
-    (λ c. search needs)
     (λ c. search needs))

@@ -44,7 +44,7 @@ fn places_before(table: &[u8], row: usize) -> usize
 // The way from a place in this row on.
 pub fn walk_from(table: &[u8], row: usize, place: usize) -> Walk
     requires { ⌜ Good (now table) × (row < rowsOf (now table)) × InRow (now table) place row ⌝ }
-    ensures { λ w. ⌜ Walked (now (table .entry)) (w .row) (w .end) place ⌝ }
+    ensures { λ w. ⌜ AtRow (now (table .entry)) (w .row) (w .end) place ⌝ }
 {
     Walk {
         row,

@@ -7,7 +7,7 @@ use borrow.Author.Needs.{needs}
 use Rattle.enumeration.proofs.Product.{product}
 use Rattle.text.proofs.Writing.{wrote-length}
 use Rattle.places.proofs.Looking.{lookable}
-use Rattle.places.proofs.Walking.{its-row, walks-on, in-table}
+use Rattle.places.proofs.Walking.{its-row, walks-here, walks-on, in-table}
 use Rattle.places.specs.Bounds.{Sized, Walked}
 use Rattle.tables.specs.Table.{placesIn}
 use Rattle.report.proofs.Joined.{LinesTo, begins-lines, line-more}
@@ -31,7 +31,7 @@ walk-from-requires c κs = let a = c .before .before .before .pre in (a .good, a
 loop-holds : tie.Need-loop-holds Inv-loop μ-loop
 loop-holds c =
     let a = c .before .before .before .before in
-    (omega arith, a .pre .from-to, c .walk-from .ensures, refl, begins-lines product (a .args .table .now) (a .args .page .now) (a .args .from) (a .args .out .now))
+    (omega arith, a .pre .from-to, walks-here (c .walk-from .ensures), refl, begins-lines product (a .args .table .now) (a .args .page .now) (a .args .from) (a .args .out .now))
 
 walked-requires : tie.Need-walked-requires Inv-loop μ-loop
 walked-requires c κs = let i = c .before .loop in (i .inv .2, omega (arith, i .inv .1, c .before .before .before .before .before .before .pre .to-places))

@@ -1,4 +1,5 @@
--- `listing::output::print_lines` prints block after block of what the call lines has written; each goes on behind the one before. Assumes nothing.
+-- `listing::output::print_page` prints block after block of what the call lines has written, each behind the one before, and then the last line. Assumes
+-- nothing.
 use Prim.Native.Nat.{_-_, _≤_}
 use mathlib.Core.Path.{_≡_, sym, ap, _∙_}
 use native.Mathlib.Omega.{arith}
@@ -8,14 +9,14 @@ use Rattle.enumeration.proofs.Product.{product}
 use Rattle.report.proofs.Steps.{said-goes-on}
 use Rattle.report.specs.Calls.{listedMeaning, sizeListed}
 use Rattle.listing.proofs.Parts.{part-fits, part-size}
-use Rattle.listing.proofs.output.print_lines.Statement.{statement}
-use Rattle.listing.proofs.output.print_lines.Tie as tie
+use Rattle.listing.proofs.output.print_page.Statement.{statement}
+use Rattle.listing.proofs.output.print_page.Tie as tie
 
 abbrev Inv-loop : tie.InvT-loop
-Inv-loop table page places out₀ from₀ out from = (from ≤ 4096) × (length out ≡ 65536)
+Inv-loop table page places refused out₀ from₀ out from = (from ≤ 4096) × (length out ≡ 65536)
 
 abbrev μ-loop : tie.MeasureT-loop
-μ-loop table page places out₀ from₀ out from = 4096 - from
+μ-loop table page places refused out₀ from₀ out from = 4096 - from
 
 loop-holds : tie.Need-loop-holds Inv-loop μ-loop
 loop-holds c = (omega arith, sym (c .large-buffer .ensures))
@@ -43,8 +44,8 @@ loop-again c =
     let on = said-goes-on product (a .table .now) (a .page .now) (i .out) (i .from) _ _ (ap listedMeaning (sym (told .1)) ∙ block .ensures .0) in
     (on .1, block .kept .1 .1 .1 .0 ∙ i .inv .1)
 
-pub print-lines-spec : {M : Type 1} → statement M
-print-lines-spec =
+pub print-page-spec : {M : Type 1} → statement M
+print-page-spec =
     tie.close
     (tie.spec
     Inv-loop
@@ -63,4 +64,5 @@ print-lines-spec =
     (λ c. search needs)
     (λ c κs. search needs)
     (λ c. search needs)
+    (λ c κs. search needs)
     (λ c. search needs))

@@ -1,0 +1,30 @@
+-- Checks in turn, written out: the first that fails is told, with what it names, and a buffer is then left as it was. proofs/Example.antt computes every
+-- line. Assumes nothing.
+use Prim.Native.Nat.{ℕ}
+use mathlib.Core.Path.{_≡_}
+use mathlib.Core.List.{List, [], _∷_}
+use mathlib.Core.Bool.{Bool, true, false}
+use lib.Dec.{ltb}
+use Rattle.answers.specs.Checks.{Check, firstOf, leaves, numberSaid, wrongLength, eachFrom}
+
+-- a check of number 4, and one of number 11 that names i, from 5 on failing
+abbrev pub four : Bool → Check
+four fails = record { number = 4; values = []; fails = fails }
+
+abbrev pub eleven : ℕ → Check
+eleven i = record { number = 11; values = i ∷ []; fails = ltb 4 i }
+
+pub record Example : Type 0 where
+  pub first-told : firstOf (four true ∷ eleven 7 ∷ []) (0 ∷ 3 ∷ []) ≡ 4 ∷ []
+  pub second-told : firstOf (four false ∷ eleven 7 ∷ []) (0 ∷ 3 ∷ []) ≡ 11 ∷ 7 ∷ []
+  pub answered : firstOf (four false ∷ eleven 2 ∷ []) (0 ∷ 3 ∷ []) ≡ 0 ∷ 3 ∷ []
+  pub refused-leaves : leaves {A = ℕ} (four false ∷ eleven 7 ∷ []) 5 9 ≡ 9
+  pub answered-leaves : leaves {A = ℕ} (four false ∷ eleven 2 ∷ []) 5 9 ≡ 5
+  pub number-told : numberSaid (11 ∷ 7 ∷ []) ≡ 11
+  -- one for each number: the lowest at fault is named
+  pub lowest-named : firstOf (eachFrom eleven 2 6) (0 ∷ []) ≡ 11 ∷ 5 ∷ []
+  pub none-named : firstOf (eachFrom eleven 2 3) (0 ∷ []) ≡ 0 ∷ []
+  -- shorter and longer are both wrong
+  pub shorter : wrongLength 2 3 ≡ true
+  pub right : wrongLength 3 3 ≡ false
+  pub longer : wrongLength 4 3 ≡ true

@@ -1,0 +1,40 @@
+-- Small counts, written out: the triangle, the ranges of length 3 and radius 4, and widths. proofs/Example.antt computes every line. Assumes nothing.
+use Prim.Native.Nat.{ℕ}
+use mathlib.Core.Path.{_≡_}
+use Rattle.counts.specs.Counts.{N, binomial, D, S, B, R, O}
+use Rattle.counts.specs.Width.{width}
+
+pub record Example : Type 0 where
+  -- N(l,0) = 1 for every l, N(0,k) = 0 for k above 0; a length is never taken for a radius
+  pub none-0 : N 0 0 ≡ 1
+  pub none-4 : N 4 0 ≡ 1
+  pub no-length : N 0 5 ≡ 0
+  pub points-2-3 : N 2 3 ≡ 12
+  pub points-3-2 : N 3 2 ≡ 18
+  pub points-3-4 : N 3 4 ≡ 66
+  -- D(s,l) = binomial(l,s), 0 where s exceeds l; S(s,k) = binomial(k-1,s-1), and at 0 no numbers sum to 0 alone
+  pub binomial-5-2 : binomial 5 2 ≡ 10
+  pub patterns-2-5 : D 2 5 ≡ 10
+  pub patterns-5-2 : D 5 2 ≡ 0
+  pub shapes-2-5 : S 2 5 ≡ 4
+  pub shapes-3-5 : S 3 5 ≡ 6
+  pub shapes-5-3 : S 5 3 ≡ 0
+  pub shapes-0-0 : S 0 0 ≡ 1
+  pub shapes-0-3 : S 0 3 ≡ 0
+  pub shapes-3-0 : S 3 0 ≡ 0
+  pub signs-3 : B 3 ≡ 8
+  -- the ranges for s = 3, 2 and 1 of length 3 and radius 4, 66 points
+  pub size-3 : R 3 3 4 ≡ 24
+  pub size-2 : R 2 3 4 ≡ 36
+  pub size-1 : R 1 3 4 ≡ 6
+  pub start-3 : O 3 3 4 ≡ 0
+  pub start-2 : O 2 3 4 ≡ 24
+  pub start-1 : O 1 3 4 ≡ 60
+  -- the least number of bits b with 2^b at least the total
+  pub width-1 : width 1 ≡ 0
+  pub width-2 : width 2 ≡ 1
+  pub width-3 : width 3 ≡ 2
+  pub width-4 : width 4 ≡ 2
+  pub width-5 : width 5 ≡ 3
+  pub width-18 : width 18 ≡ 5
+  pub width-largest : width 4294967296 ≡ 32
