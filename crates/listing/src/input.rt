@@ -1,9 +1,11 @@
 // The two files. A table is read as far as it tells whether it is too long; records are taken block by block, 65,536 bytes each but the last, a whole
 // number of records.
 use page::collect;
+ghost use mathlib.Core.Path.{_≡_};
 ghost use Prim.Native.Nat.{_+_, _≤_};
 ghost use lib.ListN.{length};
 ghost use Rattle.io.specs.Counts.{Counts};
+ghost use Rattle.tables.specs.Table.{tableRoom};
 ghost use Rattle.listing.specs.Took.{Took};
 
 // A loop has to have an end, and nothing says that a file has one. 2^48 blocks of 2^16 bytes are 2^64 bytes, more than any file has.
@@ -48,8 +50,9 @@ fn fill(fd: i32, path: &[u8], block: &mut [u8]) -> usize
     filled
 }
 
-// The bytes of the table, at most as many as there is room for.
+// The bytes of the table, at most as many as there is room for, which is enough to tell that a table is too long.
 pub fn read_table(room: &mut [u8]) -> usize
+    requires { ⌜ length (now room) ≡ tableRoom ⌝ }
     ensures { λ n. ⌜ Counts n (now (room .exit)) ⌝ }
 {
     let path = b"pairing.bin";

@@ -2,12 +2,13 @@
 use Prim.Native.Nat.{ℕ, _+_, _-_, _/_, _≤_, _<_}
 use mathlib.Core.Bool.{false}
 use mathlib.Core.List.{List, [], _∷_, _++_}
+use mathlib.Core.Logic.{⊎-elim}
 use mathlib.Core.Path.{_≡_, refl, sym, ap, _∙_}
 use native.Mathlib.Nat.{le-refl, zero-add, min-le-left, le-min}
 use native.Mathlib.Omega.{arith}
 use borrow.Author.Tests.{lt-leb, leb-false, le-ltb, ltb-false}
 use lib.Dec.{ltb, lit<}
-use lib.ListN.{length, getD, drop}
+use lib.ListN.{length, getD, take, drop}
 use lib.Seq.{take-append-seam}
 use Rattle.answers.proofs.Each.{passes-each, each-numbered}
 use Rattle.answers.proofs.InOrder.{Numbered, numbered-then, none-of, says-passes, passes-apart, passes-fails, passes-says, passes-leaves, passed-says, passed-leaves, refusal-fails}
@@ -16,9 +17,9 @@ use Rattle.answers.specs.Refusals.{meaning, numberOf}
 use Rattle.answers.specs.declared.Refusal.{Refusal}
 use Rattle.enumeration.specs.Enumeration.{Enumeration}
 use Rattle.tables.proofs.Good.{good-total}
-use Rattle.tables.proofs.Seven.{table-numbered, table-says-7}
+use Rattle.tables.proofs.Seven.{table-numbered, table-says-7, wrong-size-bad, room-tells}
 use Rattle.tables.specs.Row.{rowsOf}
-use Rattle.tables.specs.Table.{placesIn, tableChecks, checkSays, Good}
+use Rattle.tables.specs.Table.{tableRoom, placesIn, tableChecks, checkSays, Good}
 use Rattle.rules.proofs.Blocks.{collected-then}
 use Rattle.rules.proofs.CellAfter.{after-size}
 use Rattle.rules.proofs.Claims.{right-page}
@@ -38,6 +39,12 @@ module _ (e : Enumeration) (t : List ℕ) where
       let fails = refusal-fails (placesIn t ∷ []) (tableChecks t) r said in
       let seven : numberOf r ≡ 7 = ap numberSaid said ∙ table-says-7 t (0 ∷ placesIn t ∷ []) fails in
       rw (fails, seven) refl
+
+  room-lists : (bytes : List ℕ) → listing e (take tableRoom t) bytes ≡ listing e t bytes
+  room-lists bytes =
+      ⊎-elim (λ all. ap (λ (table : List ℕ). listing e table bytes) all)
+      (λ both. rw (wrong-size-bad (take tableRoom t) (both .0), wrong-size-bad t (both .1)) refl)
+      (room-tells t)
 
   blocks-go-on : (p b : ℕ) → p < placesIn t → lineSpace ≤ b → (p < p + linesIn t p b) × (p + linesIn t p b ≤ placesIn t)
   blocks-go-on p b h room =
@@ -100,6 +107,7 @@ module _ (e : Enumeration) (t : List ℕ) where
   pub steps : Steps e t
   steps = record {
     bad-table = refused-7;
+    enough-read = room-lists;
     in-blocks = collected-then t;
     grows = λ bytes. refl;
     lines-written = λ good xs p held h room. (block-said good xs p held h room, block-left good xs p held h room);

@@ -8,7 +8,7 @@ use lib.ListN.{length, take}
 use Rattle.answers.specs.Refusals.{meaning, numberOf}
 use Rattle.answers.specs.declared.Refusal.{Refusal}
 use Rattle.enumeration.specs.Enumeration.{Enumeration}
-use Rattle.tables.specs.Table.{placesIn, checkSays, Good}
+use Rattle.tables.specs.Table.{tableRoom, placesIn, checkSays, Good}
 use Rattle.rules.specs.Cell.{emptyPage}
 use Rattle.rules.specs.Taking.{collected, grown, partsOf}
 use Rattle.rules.specs.Tallying.{tallyOf, tallySays}
@@ -19,6 +19,8 @@ use Rattle.report.specs.Calls.{startingWith, lineSpace, linesIn, linesTe
 pub record Steps (e : Enumeration) (t : List ℕ) : Type 0 where
   -- a table that the check refuses: its refusal is the whole listing
   pub bad-table : (bytes : List ℕ) (r : Refusal) → meaning r ≡ checkSays t → refusedText (numberOf r) ≡ listing e t bytes
+  -- a table file may be too long: as many bytes as there is room for give the listing of all of them
+  pub enough-read : (bytes : List ℕ) → listing e (take tableRoom t) bytes ≡ listing e t bytes
   -- records in two blocks, the first of whole records: the page and the refused takes of both are those of all the bytes
   pub in-blocks : (pg xs ys : List ℕ) (n : ℕ) → length xs ≡ 8 * n → collected t pg (xs ++ ys) ≡ record {
     page = collected t (collected t pg xs .page) ys .page;

@@ -9,18 +9,25 @@ use Rattle.floats.specs.Exact.{over256}
 use Rattle.tables.specs.Row.{byteOf, badRadius, badRadii, badRow}
 use Rattle.tables.specs.Table.{placesBefore, rowsBefore}
 use Rattle.rules.specs.Cell.{cell, setCell}
-use Rattle.rules.specs.Taking.{badCell, takeCell, refusals, arrive, after, partsFrom}
+use Rattle.rules.specs.Taking.{claims, badCell, takeCell, refusals, arrive, after, partsFrom}
 use Rattle.rules.specs.Judging.{judgeCodeword, judgeRecord, judge}
 use Rattle.rules.specs.Tallying.{countOf}
 use Rattle.rules.specs.Example.{Example}
 
 pub example : Example
-unfolding toBits round N binomial D S B sumAfter rangeSize rangeStart width bitsFrom patternIndex shapeOffset shapeIndex signIndex weigh productIndex rangeFrom rangeOf patternOf firstMagnitude shapeLeft shapeOf signsOf pointFrom pointIn productPoint over256 byteOf badRadius badRadii badRow placesBefore rowsBefore cell setCell badCell takeCell refusals arrive after partsFrom judgeCodeword judgeRecord judge countOf
+unfolding toBits round N binomial D S B sumAfter rangeSize rangeStart width bitsFrom patternIndex shapeOffset shapeIndex signIndex weigh productIndex rangeFrom rangeOf patternOf firstMagnitude shapeLeft shapeOf signsOf pointFrom pointIn productPoint over256 byteOf badRadius badRadii badRow placesBefore rowsBefore cell setCell claims badCell takeCell refusals arrive after partsFrom judgeCodeword judgeRecord judge countOf
 example =
     record {
       empty-page = refl;
       taken-whole = refl;
       taken = refl;
+      taken-1-byte = refl;
+      claims-own = refl;
+      claims-other-fields = refl;
+      claims-another = refl;
+      claims-short = refl;
+      claims-long = refl;
+      claims-beyond = refl;
       again = refl;
       differs = refl;
       contested-stays = refl;

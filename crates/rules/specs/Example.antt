@@ -4,13 +4,14 @@
 use Prim.Native.Nat.{ℕ}
 use mathlib.Core.Path.{_≡_}
 use mathlib.Core.List.{List, [], _∷_, _++_, map}
+use mathlib.Core.Bool.{true, false}
 use lib.Ieee.{binary32, toBits}
 use lib.IntN.{ℤ, pos, negsuc}
 use lib.ListN.{take, drop, replicate}
 use Rattle.enumeration.proofs.Product.{product}
 use Rattle.tables.specs.Example.{wholeCase, twoRows, ofPlaces}
 use Rattle.rules.specs.Cell.{emptyPage}
-use Rattle.rules.specs.Taking.{takeSays, takeLeaves, collected}
+use Rattle.rules.specs.Taking.{claims, takeSays, takeLeaves, collected}
 use Rattle.rules.specs.Judging.{judge}
 use Rattle.rules.specs.Reading.{readSays, readLeaves, coefficientSays, coefficientCarries}
 use Rattle.rules.specs.Tallying.{tallySays}
@@ -86,6 +87,14 @@ pub record Example : Type 0 where
   pub empty-page : emptyPage 2 ≡ replicate 18 0
   pub taken-whole : collected wholeCase (replicate 18 0) (first ++ second) ≡ record { page = page; refused = 0 }
   pub taken : collected wholeCase (replicate 18 0) (first ++ second ++ take 7 first) ≡ record { page = page; refused = 1 }
+  pub taken-1-byte : collected wholeCase (replicate 18 0) (first ++ second ++ take 1 first) ≡ record { page = page; refused = 1 }
+  -- what claims a place: 8 bytes that name it, whatever else they hold, if it is in the table
+  pub claims-own : claims wholeCase first 0 ≡ true
+  pub claims-other-fields : claims wholeCase (of 0 1 9 255) 0 ≡ true
+  pub claims-another : claims wholeCase first 1 ≡ false
+  pub claims-short : claims wholeCase (take 7 first) 0 ≡ false
+  pub claims-long : claims wholeCase (first ++ 0 ∷ []) 0 ≡ false
+  pub claims-beyond : claims wholeCase (of 2 0 1 5) 2 ≡ false
   -- again, and another: held stays, then contested, its 8 bytes zero; then it stays
   pub again : takeLeaves wholeCase page first ≡ page
   pub differs : takeLeaves wholeCase page other ≡ 2 ∷ 0 ∷ 0 ∷ 0 ∷ 0 ∷ 0 ∷ 0 ∷ 0 ∷ 0 ∷ 1 ∷ second

@@ -60,4 +60,5 @@ example =
       past-at-row-1 = refl;
       rows-32 = refl;
       rows-33 = refl;
+      rows-cut = refl;
     }

@@ -8,7 +8,7 @@ use lib.ListN.{take, drop}
 use Rattle.answers.specs.Checks.{firstOf}
 use Rattle.tables.specs.Usable.{tooMany, shellChecks}
 use Rattle.tables.specs.Row.{lengthOf, radiiOf, radiusAt, stepOf, placesOf, badRow}
-use Rattle.tables.specs.Table.{checkSays, noSuchPlace, rowOf}
+use Rattle.tables.specs.Table.{tableRoom, checkSays, noSuchPlace, rowOf}
 
 abbrev pub wholeCase : List ℕ
 wholeCase = 3 ∷ 2 ∷ 0 ∷ 2 ∷ 0 ∷ 0 ∷ 0 ∷ 0 ∷ 0 ∷ 0 ∷ 1 ∷ 0 ∷ 0 ∷ 2 ∷ 0 ∷ 0 ∷ []
@@ -90,6 +90,7 @@ pub record Example : Type 0 where
   pub at-the-limit : checkSays (ofPlaces 16 0) ≡ 0 ∷ 4096 ∷ []
   pub past-the-limit : checkSays (ofPlaces 16 1) ≡ 7 ∷ 0 ∷ []
   pub past-at-row-1 : checkSays (ofPlaces 16 0 ++ wholeCase) ≡ 7 ∷ 1 ∷ []
-  -- 32 rows, and one more
+  -- 32 rows, and one more; the room for a table has one byte more than 32 rows
   pub rows-32 : checkSays (again 32 wholeCase) ≡ 0 ∷ 64 ∷ []
   pub rows-33 : checkSays (again 33 wholeCase) ≡ 7 ∷ 0 ∷ []
+  pub rows-cut : checkSays (take tableRoom (again 33 wholeCase)) ≡ 7 ∷ 0 ∷ []

@@ -13,6 +13,10 @@ use Rattle.tables.specs.Row.{rowsOf, placesOf, badRow}
 abbrev pub wrongSize : ℕ → Bool
 wrongSize n = anyOf (ltb n 1 ∷ ltb 512 n ∷ not (eqb (n % 16) 0) ∷ [])
 
+-- So many bytes of a table tell whether it is too long, however long it is: one more than the largest has.
+abbrev pub tableRoom : ℕ
+tableRoom = 513
+
 -- places are numbered from 0 through the rows in order: so many come before row r, the running total
 unfoldable pub placesBefore : List ℕ → ℕ → ℕ
 placesBefore t zero = 0
