@@ -1,14 +1,13 @@
 // The listing program (document 01, "Listing program"): lists the page that `records.bin` makes with the table in `pairing.bin`, both in the directory
 // that it is run in. It takes the records a block at a time and writes the lines a block at a time, so its memory does not grow with the files. What is
 // taken and what is written is decided by the calls; a missing file is empty, and so is one that cannot be opened, which standard error tells.
-mod input;
-mod output;
+mod inner;
 
 use cells::inner::rule::start;
-use input::read_table;
-use input::take_records;
-use output::print_page;
-use output::print_refused;
+use inner::input::read_table;
+use inner::input::take_records;
+use inner::output::print_page;
+use inner::output::print_refused;
 use pairing::Checked;
 use pairing::check;
 ghost use Prim.Native.Nat.{_≤_};

@@ -1,4 +1,4 @@
--- `listing::output::print_page` prints block after block of what the call lines has written, each behind the one before, and then the last line. Assumes
+-- `listing::inner::output::print_page` prints block after block of what the call lines has written, each behind the one before, and then the last line. Assumes
 -- nothing.
 use Prim.Native.Nat.{_-_, _≤_}
 use mathlib.Core.Path.{_≡_, sym, ap, _∙_}
@@ -9,8 +9,8 @@ use Rattle.enumeration.proofs.Product.{product}
 use Rattle.report.proofs.Steps.{said-goes-on}
 use Rattle.report.specs.Calls.{listedMeaning, sizeListed}
 use Rattle.listing.proofs.Parts.{part-fits, part-size}
-use Rattle.listing.proofs.output.print_page.Statement.{statement}
-use Rattle.listing.proofs.output.print_page.Tie as tie
+use Rattle.listing.proofs.inner.output.print_page.Statement.{statement}
+use Rattle.listing.proofs.inner.output.print_page.Tie as tie
 
 abbrev Inv-loop : tie.InvT-loop
 Inv-loop table page places refused out₀ from₀ out from = (from ≤ 4096) × (length out ≡ 65536)

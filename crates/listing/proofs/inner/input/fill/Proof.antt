@@ -1,12 +1,12 @@
--- `listing::input::fill` fills a block with what comes, and answers how much that is. Assumes nothing.
+-- `listing::inner::input::fill` fills a block with what comes, and answers how much that is. Assumes nothing.
 use Prim.Native.Nat.{_-_, _≤_}
 use mathlib.Core.Path.{_≡_, refl, sym, _∙_}
 use native.Mathlib.Omega.{arith}
 use lib.ListN.{length}
 use lib.Seq.{length-take-le}
 use borrow.Author.Needs.{needs}
-use Rattle.listing.proofs.input.fill.Statement.{statement}
-use Rattle.listing.proofs.input.fill.Tie as tie
+use Rattle.listing.proofs.inner.input.fill.Statement.{statement}
+use Rattle.listing.proofs.inner.input.fill.Tie as tie
 
 abbrev Inv-loop : tie.InvT-loop
 Inv-loop fd path block₀ filled₀ block filled = (filled ≤ length block) × (length block ≡ length block₀)

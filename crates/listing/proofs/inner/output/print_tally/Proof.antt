@@ -1,9 +1,9 @@
--- `listing::output::print_tally` prints what the call last_line has written. Assumes nothing.
+-- `listing::inner::output::print_tally` prints what the call last_line has written. Assumes nothing.
 use borrow.Author.Needs.{needs}
 use Rattle.report.specs.Calls.{sizeLined}
 use Rattle.listing.proofs.Parts.{part-fits, part-size}
-use Rattle.listing.proofs.output.print_tally.Statement.{statement}
-use Rattle.listing.proofs.output.print_tally.Tie as tie
+use Rattle.listing.proofs.inner.output.print_tally.Statement.{statement}
+use Rattle.listing.proofs.inner.output.print_tally.Tie as tie
 
 array-share-prefix-out : tie.Need-array-share-prefix-out
 array-share-prefix-out c = let line = c .before .before .before .before .last-line in part-fits sizeLined (c .before .size .given .1) (line .last .1 .1 .0) (line .ensures .2)

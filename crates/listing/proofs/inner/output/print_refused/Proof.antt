@@ -1,9 +1,9 @@
--- `listing::output::print_refused` prints what the call refused_line has written. Assumes nothing.
+-- `listing::inner::output::print_refused` prints what the call refused_line has written. Assumes nothing.
 use borrow.Author.Needs.{needs}
 use Rattle.report.specs.Calls.{sizeLined}
 use Rattle.listing.proofs.Parts.{part-fits, part-size}
-use Rattle.listing.proofs.output.print_refused.Statement.{statement}
-use Rattle.listing.proofs.output.print_refused.Tie as tie
+use Rattle.listing.proofs.inner.output.print_refused.Statement.{statement}
+use Rattle.listing.proofs.inner.output.print_refused.Tie as tie
 
 array-share-prefix-out : tie.Need-array-share-prefix-out
 array-share-prefix-out c = let line = c .before .before .before .before .refused-line in part-fits sizeLined (c .before .size .given .1) (line .last .1 .0) (line .ensures .2)

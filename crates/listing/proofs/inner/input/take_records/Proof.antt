@@ -1,4 +1,4 @@
--- `listing::input::take_records` takes block after block; in each no more takes are refused than it has parts. Assumes nothing.
+-- `listing::inner::input::take_records` takes block after block; in each no more takes are refused than it has parts. Assumes nothing.
 use Prim.Native.Nat.{_-_, _*_, _≤_}
 use mathlib.Core.Path.{_≡_, refl, sym, _∙_}
 use native.Mathlib.Nat.{le-of-eq}
@@ -8,8 +8,8 @@ use borrow.Author.Needs.{needs}
 use borrow.Author.Tests.{ltb-true}
 use Rattle.listing.proofs.Blocks.{TookWhole, took-none, took-block, took-more}
 use Rattle.listing.proofs.Parts.{refused-few}
-use Rattle.listing.proofs.input.take_records.Statement.{statement}
-use Rattle.listing.proofs.input.take_records.Tie as tie
+use Rattle.listing.proofs.inner.input.take_records.Statement.{statement}
+use Rattle.listing.proofs.inner.input.take_records.Tie as tie
 
 abbrev Inv-loop : tie.InvT-loop
 Inv-loop table page₀ path fd block₀ refused₀ turns₀ n₀ page block refused turns n =
