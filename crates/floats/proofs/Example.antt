@@ -1,12 +1,13 @@
 -- Every line of the example holds by computation. Assumes nothing.
 use mathlib.Core.Path.{refl}
-use lib.Ieee.{toBits, lt}
+use lib.Ieee.{toBits, round, lt}
 use Rattle.floats.specs.Units.{ofPattern, unitsOf, unusable, negative}
 use Rattle.floats.specs.Nearest.{nearestWhole}
+use Rattle.floats.specs.Exact.{over256}
 use Rattle.floats.specs.Example.{Example}
 
 pub example : Example
-unfolding ofPattern unitsOf unusable negative nearestWhole toBits lt
+unfolding ofPattern unitsOf unusable negative nearestWhole over256 toBits round lt
 example =
     record {
       whole-1 = refl;
@@ -28,4 +29,8 @@ example =
       one = refl;
       smallest = refl;
       smallest-becomes = refl;
+      over-775 = refl;
+      over-negative = refl;
+      over-zero = refl;
+      over-largest = refl;
     }

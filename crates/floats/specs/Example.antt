@@ -3,10 +3,11 @@
 use Prim.Native.Nat.{ℕ, _-_, _^_}
 use mathlib.Core.Path.{_≡_}
 use mathlib.Core.Bool.{Bool, true, false}
-use lib.Ieee.{Float, nan, inf, fin}
+use lib.Ieee.{Float, nan, inf, fin, binary32, toBits}
 use lib.IntN.{pos, negsuc}
 use Rattle.floats.specs.Units.{unitsOf, unusable, negative}
 use Rattle.floats.specs.Nearest.{nearestWhole}
+use Rattle.floats.specs.Exact.{over256}
 
 -- n / 512, negative where s is true, by an odd n
 abbrev pub over512 : Bool → ℕ → Float
@@ -36,3 +37,8 @@ pub record Example : Type 0 where
   pub one : unitsOf (fin false 1 (pos 0)) ≡ 2 ^ 149
   pub smallest : unitsOf (fin true 1 (negsuc 148)) ≡ 1
   pub smallest-becomes : nearestWhole (fin true 1 (negsuc 148)) ≡ 0
+  -- whole numbers over 256, as bit patterns: 775 / 256 is 3.02734375, and zero is positive zero
+  pub over-775 : toBits binary32 (over256 (pos 775)) ≡ 1078050816
+  pub over-negative : toBits binary32 (over256 (negsuc 774)) ≡ 3225534464
+  pub over-zero : toBits binary32 (over256 (pos 0)) ≡ 0
+  pub over-largest : toBits binary32 (over256 (pos 16777215)) ≡ 1199570943

@@ -46,10 +46,11 @@ pub record Example : Type 0 where
   pub good-1 : badRow twoRows 1 ≡ false
   pub no-step : badRow (take 10 wholeCase ++ 0 ∷ 0 ∷ 0 ∷ 2 ∷ 0 ∷ 0 ∷ []) 0 ≡ true
   pub no-places : badRow (take 12 wholeCase ++ 0 ∷ 0 ∷ 0 ∷ 0 ∷ []) 0 ≡ true
-  -- the smallest step, number of places and length are good
+  -- the smallest step, number of places, length and number of radii are good
   pub step-of-1 : badRow (take 10 wholeCase ++ 0 ∷ 1 ∷ drop 12 wholeCase) 0 ≡ false
   pub one-place : badRow (ofPlaces 0 1) 0 ≡ false
   pub length-of-1 : badRow (1 ∷ drop 1 wholeCase) 0 ≡ false
+  pub one-radius : badRow (3 ∷ 1 ∷ 0 ∷ 0 ∷ drop 4 wholeCase) 0 ≡ false
   -- each other fault by itself: length 0 and 17; no radii, and nine; a first radius that is 1; two that are equal, the last two of eight among them;
   -- one above 32; one past the largest of length 16, which is good; one beyond the number of radii; a byte 14 or 15 that is not 0
   pub no-length : badRow (0 ∷ drop 1 wholeCase) 0 ≡ true
@@ -68,7 +69,11 @@ pub record Example : Type 0 where
   -- a shell of 2^32 points is within the limit, and one of a point more is not; no shell has either number of points
   pub most-points : tooMany 4294967296 ≡ false
   pub too-many : tooMany 4294967297 ≡ true
-  -- of a length and a radius that are both at fault, the length is told
+  -- a shell's length, radius and number of points; of a length and a radius that are both at fault, the length is told
+  pub shell-1 : firstOf (shellChecks 17 1) (0 ∷ []) ≡ 1 ∷ []
+  pub shell-2 : firstOf (shellChecks 16 33) (0 ∷ []) ≡ 2 ∷ []
+  pub shell-3 : firstOf (shellChecks 16 13) (0 ∷ []) ≡ 3 ∷ []
+  pub shell-0 : firstOf (shellChecks 16 12) (0 ∷ []) ≡ 0 ∷ []
   pub length-first : firstOf (shellChecks 0 33) (0 ∷ []) ≡ 1 ∷ []
   -- tables, and the first of their rows that is bad
   pub whole-case : checkSays wholeCase ≡ 0 ∷ 2 ∷ []
