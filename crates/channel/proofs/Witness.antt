@@ -1,10 +1,11 @@
 -- The whole case, computed; and the theorems applied to it. Assumes nothing.
-use Prim.Native.Nat.{ℕ, zero, suc}
+use Prim.Native.Nat.{ℕ, zero, suc, _<_}
 use mathlib.Core.Path.{_≡_, refl, sym, ap, _∙_}
 use mathlib.Core.List.{List, [], _∷_, List·Memᴰ·head, List·Memᴰ·tail, List·Memᴰ·cases-cons, List·Memᴰ·not-nil}
 use mathlib.Core.Bool.{Bool, true, false, not, _&&_, _||_, false≢true}
-use mathlib.Core.Logic.{⊎-elim}
+use mathlib.Core.Logic.{inl, inr, ⊎-elim}
 use lib.Ieee.{toBits, round, lt}
+use lib.Dec.{lit<}
 use lib.ListN.{replicate}
 use native.Mathlib.Omega.{arith}
 use Rattle.counts.specs.Counts.{N, binomial, D, S, B, sumAfter, rangeSize, rangeStart}
@@ -28,7 +29,7 @@ use Rattle.rules.specs.Example.{of, first, other}
 use Rattle.rules.specs.Taking.{claims, badCell, takeCell, arrive, after, grown, AllEqual}
 use Rattle.rules.specs.Judging.{judgeCodeword, judgeRecord, judge}
 use Rattle.rules.proofs.CellRule.{bytes-same}
-use Rattle.channel.specs.Demand3.{SoundWith, PageSent}
+use Rattle.channel.specs.Demand3.{SoundWith, Bytes, PageSent}
 use Rattle.channel.specs.Witness.{sent, turned, arrivals, Witness}
 use Rattle.channel.proofs.Sent.{shown-as-sent, only-signs-change}
 
@@ -50,6 +51,10 @@ each-equal t p r (y ∷ ys) e x m f = ⊎-elim (λ same. same ∙ here (claims t
     here a true ea eb h g = bytes-same y r eb
     here true false ea eb h g = absurd (false≢true h)
     here false false ea eb h g = absurd (false≢true (sym ea ∙ g))
+
+each-byte : (n : ℕ) → n < 256 → Bytes (n ∷ [])
+each-byte n h zero = h
+each-byte n h (suc i) = lit< tt
 
 -- both places of the table
 each-sent : PageSent wholeCase (λ p. vector) (λ p. of p 0 1 5) (λ p. sent)
@@ -78,6 +83,9 @@ witness = record {
     says = refl;
     leaves = refl;
   };
+  shows-sound = inl refl;
+  shows-mended = inr refl;
+  any-byte = each-byte;
   page-sent = each-sent;
 }
 

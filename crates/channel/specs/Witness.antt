@@ -1,7 +1,7 @@
 -- Demand 3 on document 01's whole case, c and d first, so that nobody can call them empty: the vector (1.5, 0, -0.75) is sent for place 0, and what arrives
 -- is the record of place 1, a record cut short, the record sent, a record of no place, and the record sent once more. Every premise of the two
 -- theorems holds there, and what the readers answer is computed. Assumes nothing.
-use Prim.Native.Nat.{ℕ, _/_, _^_}
+use Prim.Native.Nat.{ℕ, _/_, _^_, _<_}
 use mathlib.Core.Path.{_≡_}
 use mathlib.Core.List.{List, [], _∷_, map, List·Memᴰ}
 use lib.Ieee.{binary32, toBits}
@@ -13,10 +13,10 @@ use Rattle.enumeration.specs.Signs.{flipped}
 use Rattle.enumeration.proofs.Product.{product}
 use Rattle.tables.specs.Example.{wholeCase}
 use Rattle.vectors.specs.Example.{vector}
-use Rattle.rules.specs.Example.{of, first, second, other, zeros}
+use Rattle.rules.specs.Example.{of, first, second, other, page, zeros}
 use Rattle.rules.specs.Taking.{grown, AllEqual}
 use Rattle.rules.specs.Reading.{readSays, readLeaves, coefficientCarries}
-use Rattle.channel.specs.Demand3.{Sent, withCodeword, PageSent}
+use Rattle.channel.specs.Demand3.{Bytes, ShowsPoint, Sent, withCodeword, PageSent}
 
 -- the point of the vector, and the point with the first coordinate negated
 abbrev pub sent : List ℤ
@@ -46,5 +46,10 @@ pub record Witness : Type 0 where
   pub is-changed : withCodeword first 7 ≡ other
   pub is-turned : flipped (productIndex sent) 7 sent ≡ turned
   pub turned-read : Read other turned
+  -- e: a sound and a mended place both meet the premise
+  pub shows-sound : ShowsPoint (readSays product wholeCase page 0 zeros)
+  pub shows-mended : ShowsPoint (readSays product wholeCase page 1 zeros)
+  -- a table may hold every byte
+  pub any-byte : (n : ℕ) → n < 256 → Bytes (n ∷ [])
   -- the demand as the order words it: the same vector, sent for every place of the table
   pub page-sent : PageSent wholeCase (λ p. vector) (λ p. of p 0 1 5) (λ p. sent)
