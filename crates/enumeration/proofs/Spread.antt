@@ -71,7 +71,8 @@ signed-nonzero false i = refl
 signed-nonzero true i = refl
 
 pub signed-magnitude : (b : Bool) (i : ℕ) → natAbs (signed b i) ≡ i
-signed-magnitude false i = refl
+signed-magnitude false zero = refl
+signed-magnitude false (suc i) = refl
 signed-magnitude true zero = refl
 signed-magnitude true (suc i) = refl
 
