@@ -2,4 +2,5 @@ pub mod OneToOne
 pub mod InOrder
 pub mod Each
 pub mod OneNumber
+pub mod Lengths
 pub mod Example

@@ -1,4 +1,4 @@
--- Demand 3 on document 01's whole case, c and d first, so that nobody can call them empty: the vector (1.5, 0, -0.75) is sent for place 0, and what arrives
+-- Demand 3 on document 01's whole case, so that nobody can call it empty. For c and d the vector (1.5, 0, -0.75) is sent for place 0, and what arrives
 -- is the record of place 1, a record cut short, the record sent, a record of no place, and the record sent once more. Every premise of the two
 -- theorems holds there, and what the readers answer is computed. Assumes nothing.
 use Prim.Native.Nat.{ℕ, _/_, _^_, _<_}

@@ -12,7 +12,7 @@ pub record Example : Type 0 where
   pub points-2-3 : N 2 3 ≡ 12
   pub points-3-2 : N 3 2 ≡ 18
   pub points-3-4 : N 3 4 ≡ 66
-  -- D(s,l) = binomial(l,s), 0 where s exceeds l; S(s,k) = binomial(k-1,s-1), and at 0 no numbers sum to 0 alone
+  -- D(s,l) = binomial(l,s), 0 where s exceeds l; S(s,k) = binomial(k-1,s-1), and no numbers at all sum to 0, in one way
   pub binomial-5-2 : binomial 5 2 ≡ 10
   pub patterns-2-5 : D 2 5 ≡ 10
   pub patterns-5-2 : D 5 2 ≡ 0

@@ -1,6 +1,6 @@
--- The enumeration in small: the patterns, the shapes, and all 18 points of length 3 and radius 2, in the order of their indices. With two nonzero coordinates, from 0 on,
--- there are three patterns, 0xx, x0x and xx0, one shape, 1 1, and four signs of each; with one, from 12 on, there are the patterns 00x, 0x0
--- and x00, the shape 2, and two signs of each. proofs/Example.antt computes it. Assumes nothing.
+-- The enumeration in small: six patterns, six shapes, and all 18 points of length 3 and radius 2, each in the order of their indices. Of the points
+-- those with two nonzero coordinates come first, from 0 on: three patterns, 0xx, x0x and xx0, one shape, 1 1, and four signs of each. With one, from
+-- 12 on, there are the patterns 00x, 0x0 and x00, the shape 2, and two signs of each. proofs/Example.antt computes every line. Assumes nothing.
 use Prim.Native.Nat.{ℕ, zero, suc}
 use mathlib.Core.Path.{_≡_}
 use mathlib.Core.List.{List, [], _∷_, map}

@@ -26,12 +26,12 @@ pub record Example : Type 0 where
   pub nan-refused : unusable nan ≡ true
   pub infinity-refused : unusable (inf false) ≡ true
   pub negative-infinity-refused : unusable (inf true) ≡ true
-  -- a sign is below zero, which neither zero is
+  -- negative is below zero, which neither zero is
   pub below-zero : negative (over512 true 1) ≡ true
   pub above-zero : negative (over512 false 1) ≡ false
   pub zero-not-below : negative (fin false 0 (pos 0)) ≡ false
   pub negative-zero-not-below : negative (fin true 0 (pos 0)) ≡ false
-  -- both zeros give 0, and 1 is 2^149 over 2^149, the smallest f32 above 0 is 1 over it
+  -- both zeros give 0; 1 is 2^149 over 2^149, and the smallest magnitude above 0 is 1 over it
   pub zero : nearestWhole (fin false 0 (pos 0)) ≡ 0
   pub negative-zero : nearestWhole (fin true 0 (pos 0)) ≡ 0
   pub one : unitsOf (fin false 1 (pos 0)) ≡ 2 ^ 149

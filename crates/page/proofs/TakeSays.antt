@@ -4,10 +4,10 @@ use mathlib.Core.Bool.{Bool, true, false}
 use mathlib.Core.List.{List, [], _∷_}
 use mathlib.Core.Path.{_≡_, refl, sym, _∙_}
 use native.Mathlib.Omega.{arith}
-use lib.Dec.{eqb}
 use lib.ListN.{length}
-use borrow.Author.Tests.{le-leb, lt-leb, eqb-true, not-false}
+use borrow.Author.Tests.{le-leb, lt-leb}
 use Rattle.answers.proofs.InOrder.{none-of}
+use Rattle.answers.proofs.Lengths.{right-length}
 use Rattle.answers.specs.Checks.{anyOf}
 use Rattle.tables.specs.Table.{placesIn}
 use Rattle.records.specs.Record.{recordLength, wrongRecord, placeIn}
@@ -33,10 +33,8 @@ module _ {t : List ℕ} {places : ℕ} (sized : Sized t places) (pg x : List ℕ
     module _ (right : wrong ≡ false) where
       lengths : (length x ≡ recordLength) × (length pg ≡ pageLength (placesIn t))
       lengths =
-          let none = none-of (wrongRecord (length x) ∷ wrongPage (placesIn t) (length pg) ∷ []) (judged-is right) in (
-            eqb-true (length x) recordLength (not-false (eqb (length x) recordLength) (none .0)),
-            eqb-true (length pg) (pageLength (placesIn t)) (not-false (eqb (length pg) (pageLength (placesIn t))) (none .1 .0)),
-          )
+          let none = none-of (wrongRecord (length x) ∷ wrongPage (placesIn t) (length pg) ∷ []) (judged-is right) in
+          (right-length (length x) recordLength (none .0), right-length (length pg) (pageLength (placesIn t)) (none .1 .0))
 
       page-long : pageLength (placesIn t) ≡ cellLength * places
       page-long = omega (arith, sized .is-places)

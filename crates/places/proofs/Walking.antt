@@ -51,25 +51,21 @@ module _ {t : List ℕ} {row end p : ℕ} (at-row : AtRow t row end p) where
   pub in-table : InTable t row
   in-table = record { below = at-row .below; row-good = good-row t (at-row .good) row (at-row .below) }
 
-  -- the way begins at it
-  pub walks-here : Walked t row end p
-  walks-here = record {
-    good = at-row .good;
-    below = at-row .below;
-    is-end = at-row .is-end;
-    from = at-row .in-row .from;
-    to = omega (arith, at-row .in-row .to);
-  }
-
-  -- and goes on to the next place
-  pub walks-on : Walked t row end (p + 1)
-  walks-on = record {
+  walks-to : (n : ℕ) → p ≤ n → n ≤ p + 1 → Walked t row end n
+  walks-to n from to = record {
     good = at-row .good;
     below = at-row .below;
     is-end = at-row .is-end;
     from = omega (arith, at-row .in-row .from);
     to = omega (arith, at-row .in-row .to);
   }
+
+  -- the way begins at it, and goes on to the next place
+  pub walks-here : Walked t row end p
+  walks-here = walks-to p (omega arith) (omega arith)
+
+  pub walks-on : Walked t row end (p + 1)
+  walks-on = walks-to (p + 1) (omega arith) (omega arith)
 
 -- no place is before the first row
 pub none-before : (t : List ℕ) → 0 ≡ placesBefore t 0

@@ -4,15 +4,16 @@ use mathlib.Core.Path.{_≡_, refl, sym, _∙_}
 use mathlib.Core.List.{List, [], _∷_}
 use mathlib.Core.Bool.{Bool, true, false}
 use native.Mathlib.Omega.{arith}
-use lib.Dec.{eqb, lit<}
+use lib.Dec.{lit<}
 use lib.Ieee.{Float}
 use lib.ListN.{length}
-use borrow.Author.Tests.{le-leb, lt-leb, eqb-true, not-false}
+use borrow.Author.Tests.{le-leb, lt-leb}
 use Rattle.answers.specs.Refusals.{meaning}
 use Rattle.answers.specs.Checks.{wrongLength, Passes}
 use Rattle.answers.specs.declared.Refusal.{Refusal}
 use Rattle.answers.proofs.InOrder.{none-of, refusal-leaves, says-passes, passes-leaves}
 use Rattle.answers.proofs.Each.{each-passes, each-numbered}
+use Rattle.answers.proofs.Lengths.{right-length}
 use Rattle.enumeration.specs.Product.{productIndex}
 use Rattle.tables.specs.Row.{lengthOf, rowsOf}
 use Rattle.tables.specs.Table.{placesIn, rowOf, Surveys}
@@ -28,7 +29,7 @@ use Rattle.quantizer.specs.Calls.{wrongLengths, recordFor, quantizeSaysI
 right-lengths : (l vector bytes : ℕ) → wrongLengths l vector bytes ≡ false → (vector ≡ l) × (bytes ≡ recordLength)
 right-lengths l vector bytes e =
     let none = none-of (wrongLength vector l ∷ wrongRecord bytes ∷ []) e in
-    (eqb-true vector l (not-false (eqb vector l) (none .0)), eqb-true bytes recordLength (not-false (eqb bytes recordLength) (none .1 .0)))
+    (right-length vector l (none .0), right-length bytes recordLength (none .1 .0))
 
 -- no coefficient is refused
 all-pass : (xs : List Float) → 0 ∷ [] ≡ coefficientsSay xs → Passes (coefficientChecks xs)

@@ -5,11 +5,10 @@ use mathlib.Core.List.{List}
 use mathlib.Core.Bool.{Bool, true, false, _||_}
 use mathlib.Core.Logic.{_⊎_, inl, inr}
 use native.Mathlib.Omega.{arith}
-use lib.Dec.{eqb}
 use lib.ListN.{length}
-use borrow.Author.Tests.{eqb-true, not-false}
 use Rattle.answers.specs.Checks.{anyOf, failsOf}
 use Rattle.answers.proofs.InOrder.{none-of}
+use Rattle.answers.proofs.Lengths.{right-length}
 use Rattle.tables.specs.Table.{placesIn, tableChecks, Good}
 use Rattle.rules.specs.Cell.{wrongPage, pageLength}
 use Rattle.rules.specs.Taking.{Received, arrive}
@@ -26,9 +25,7 @@ open-or-shut t pg = go (anyOf (failsOf (tableChecks t))) (wrongPage (placesIn t)
     go : (a b : Bool) → anyOf (failsOf (tableChecks t)) ≡ a → wrongPage (placesIn t) (length pg) ≡ b → Open t pg ⊎ (a || b ≡ true)
     go true b e f = inr refl
     go false true e f = inr refl
-    go false false e f =
-        let right = not-false (eqb (length pg) (pageLength (placesIn t))) f in
-        inl (record { good = none-of (failsOf (tableChecks t)) e; size = eqb-true (length pg) (pageLength (placesIn t)) right })
+    go false false e f = inl (record { good = none-of (failsOf (tableChecks t)) e; size = right-length (length pg) (pageLength (placesIn t)) f })
 
 abbrev received : List ℕ → ℕ → Received
 received page refused = record { page = page; refused = refused }

@@ -34,7 +34,7 @@ other = of 0 0 1 7
 abbrev pub page : List ℕ
 page = 1 ∷ first ++ 1 ∷ second
 
--- pages of one more place's record: of place 0 in both, of place 1 in both, and a state 3
+-- pages at fault: the record of place 0 in both cells, that of place 1 in both, and a state of 3
 abbrev pub first-twice : List ℕ
 first-twice = 1 ∷ first ++ 1 ∷ first
 

@@ -140,7 +140,9 @@ shared-is zero ms some = record {
 }
 shared-is (suc k) ms some = record {
   as-long = shared-length (suc k) ms;
-  whole-or-more = λ i h. ⊎-elim (λ kept. inl (kept .0 ∙ whole-at (suc k) ms i h)) (λ got. inr (got .0 ∙ ap suc (whole-at (suc k) ms i h))) (given .each i (in-rests i h));
+  whole-or-more = λ i h.
+      ⊎-elim (λ kept. inl (kept .0 ∙ whole-at (suc k) ms i h)) (λ got. inr (got .0 ∙ ap suc (whole-at (suc k) ms i h)))
+      (given .each i (in-rests i h));
   largest-first = λ i j h g more whole.
       rw (← rest-is (suc k) ms i h, ← rest-is (suc k) ms j g)
       (given .in-order i j (in-rests i h) (in-rests j g) (more ∙ ap suc (sym (whole-at (suc k) ms i h))) (whole ∙ sym (whole-at (suc k) ms j g)));
@@ -188,14 +190,18 @@ sum-less (n ∷ ns) (m ∷ ms) same up (suc i) h less =
 module _ (k : ℕ) (ms ps qs : List ℕ) (p : IsShared k ms ps) (q : IsShared k ms qs) where
   no-difference : (i : ℕ) → i < length ms → getD ps i 0 ≡ suc (wholeAt k ms i) → getD qs i 0 ≡ wholeAt k ms i → ⊥
   no-difference i h more whole =
-      omega (arith, p .sums-to, q .sums-to, sum-less qs ps (q .as-long ∙ sym (p .as-long)) (λ j g. up j (omega (arith, q .as-long)) (p .whole-or-more j (omega (arith, q .as-long))) (q .whole-or-more j (omega (arith, q .as-long)))) i (omega (arith, q .as-long)) (omega arith))
+      let less = sum-less qs ps (q .as-long ∙ sym (p .as-long)) (λ j g. up-to j (omega (arith, q .as-long))) i (omega (arith, q .as-long)) (omega arith) in
+      omega (arith, less, p .sums-to, q .sums-to)
     where
-      up : (j : ℕ) → j < length ms → (getD ps j 0 ≡ wholeAt k ms j) ⊎ (getD ps j 0 ≡ suc (wholeAt k ms j))
-          → (getD qs j 0 ≡ wholeAt k ms j) ⊎ (getD qs j 0 ≡ suc (wholeAt k ms j)) → getD qs j 0 ≤ getD ps j 0
-      up j g (inl a) (inl b) = omega arith
-      up j g (inl a) (inr b) = absurd (never-both (restAt k ms) i j (p .largest-first i j h g more a) (q .largest-first j i g h b whole))
-      up j g (inr a) (inl b) = omega arith
-      up j g (inr a) (inr b) = omega arith
+      up-to : (j : ℕ) → j < length ms → getD qs j 0 ≤ getD ps j 0
+      up-to j g = go (p .whole-or-more j g) (q .whole-or-more j g)
+        where
+          go : (getD ps j 0 ≡ wholeAt k ms j) ⊎ (getD ps j 0 ≡ suc (wholeAt k ms j))
+              → (getD qs j 0 ≡ wholeAt k ms j) ⊎ (getD qs j 0 ≡ suc (wholeAt k ms j)) → getD qs j 0 ≤ getD ps j 0
+          go (inl a) (inl b) = omega arith
+          go (inl a) (inr b) = absurd (never-both (restAt k ms) i j (p .largest-first i j h g more a) (q .largest-first j i g h b whole))
+          go (inr a) (inl b) = omega arith
+          go (inr a) (inr b) = omega arith
 
 pub shared-only : (k : ℕ) (ms ps qs : List ℕ) → IsShared k ms ps → IsShared k ms qs → ps ≡ qs
 shared-only k ms ps qs p q = ext-getD 0 ps qs (p .as-long ∙ sym (q .as-long)) (λ i h. same i (omega (arith, p .as-long)))

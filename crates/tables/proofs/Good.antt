@@ -6,14 +6,14 @@ use mathlib.Core.Bool.{not}
 use native.Mathlib.Omega.{arith}
 use lib.Dec.{eqb, ltb}
 use lib.ListN.{length}
-use borrow.Author.Tests.{ltb-false, eqb-true, not-false}
+use borrow.Author.Tests.{ltb-false}
 use Rattle.answers.specs.Checks.{NoneOf}
 use Rattle.answers.proofs.InOrder.{none-of}
 use Rattle.answers.proofs.Each.{each-passes}
 use Rattle.tables.specs.Row.{badRow, GoodRow, rowsOf}
 use Rattle.tables.specs.Table.{RightSize, placesBefore, placesIn, passesTotal, rowCheck, Good, rowOf}
 use Rattle.tables.proofs.Places.{row-below}
-use Rattle.tables.proofs.GoodRow.{good-exactly}
+use Rattle.tables.proofs.GoodRow.{is-zero, good-exactly}
 
 pub right-size : (t : List ℕ) → Good t → RightSize t
 right-size t good =
@@ -21,7 +21,7 @@ right-size t good =
     let none = none-of (ltb n 1 ∷ ltb 512 n ∷ not (eqb (n % 16) 0) ∷ []) (good .0) in
     let from : 1 ≤ n = ltb-false n 1 (none .0) in
     let to : n ≤ 512 = ltb-false 512 n (none .1 .0) in
-    let whole : n % 16 ≡ 0 = eqb-true (n % 16) 0 (not-false (eqb (n % 16) 0) (none .1 .1 .0)) in
+    let whole : n % 16 ≡ 0 = is-zero (n % 16) (none .1 .1 .0) in
     record { rows-from = omega arith; rows-to = omega arith; whole = omega arith }
 
 module _ (t : List ℕ) (good : Good t) where

@@ -16,7 +16,7 @@ use Rattle.tables.proofs.Usable.{length-inside, passes-usable}
 use Rattle.tables.specs.Row.{byteOf, lengthOf, radiiOf, radiusAt, stepOf, placesOf, radiiOutside, unusable, outOfOrder, badRadius, badRadii, tailFaults, badRow, GoodRow}
 use Rattle.tables.proofs.Faults.{unused-says, used-says, radius-at}
 
-is-zero : (n : ℕ) → not (eqb n 0) ≡ false → n ≡ 0
+pub is-zero : (n : ℕ) → not (eqb n 0) ≡ false → n ≡ 0
 is-zero n e = eqb-true n 0 (not-false (eqb n 0) e)
 
 -- a position that is not at fault
