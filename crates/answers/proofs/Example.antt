@@ -16,6 +16,7 @@ example =
       shorter = refl;
       right = refl;
       longer = refl;
+      refused-4 = refl;
       no-fault = refl;
       a-fault = refl;
       none-of-two = refl;
@@ -35,4 +36,5 @@ example =
       coordinate-named = refl;
       place-named = refl;
       nothing-named = refl;
+      one-named = refl;
     }

@@ -9,7 +9,7 @@ use native.Mathlib.Omega.{arith}
 use Rattle.answers.specs.declared.Refusal.{Refusal}
 use Rattle.answers.specs.Refusals.{meaning}
 use Rattle.answers.specs.Checks.{Check, anyOf, NoneOf, firstOf, leaves, pick, failsOf, Refuses, Passes}
-use Rattle.answers.proofs.OneToOne.{meaning-begins}
+use Rattle.answers.proofs.OneToOne.{said}
 
 -- a check of several faults passes: then there is none
 pub none-of : (faults : List Bool) → anyOf faults ≡ false → NoneOf faults
@@ -98,8 +98,8 @@ says-passes a a′ (c ∷ cs) p e = go (c .fails) refl e (says-passes a a′ cs 
 refusal-refuses : (a : List ℕ) (cs : List Check) (r : Refusal) → meaning r ≡ firstOf cs (0 ∷ a)
     → (n : ℕ) × (vs : List ℕ) × (meaning r ≡ suc n ∷ vs) × Refuses cs (suc n) vs
 refusal-refuses a cs r e =
-    let b = meaning-begins r in
-    (b .0, b .1, b .2, says-refuses a cs (b .0) (b .1) (sym e ∙ b .2))
+    let b = said r in
+    (b .before, b .values, b .says, says-refuses a cs (b .before) (b .values) (sym e ∙ b .says))
 
 pub refusal-fails : (a : List ℕ) (cs : List Check) (r : Refusal) → meaning r ≡ firstOf cs (0 ∷ a) → anyOf (failsOf cs) ≡ true
 refusal-fails a cs r e = let b = refusal-refuses a cs r e in refuses-fails cs (suc (b .0)) (b .1) (b .3)

@@ -5,60 +5,68 @@ use mathlib.Core.Path.{_≡_, refl, sym, ap, _∙_}
 use mathlib.Core.List.{List, [], _∷_}
 use lib.ListN.{getD}
 use Rattle.answers.specs.declared.Refusal.{Refusal}
-use Rattle.answers.specs.declared.Refusal.the-variants.{LengthOutside, RadiusAbove, ShellTooLarge, BufferLength, MagnitudeSum, IndexPastEnd, BadTable, NoSuchPlace, UnusableCoefficient, BadCell, BadCellAt, NoSuchCoordinate}
+use Rattle.answers.specs.declared.Refusal.the-variants as refusal
 use Rattle.answers.specs.Refusals.{meaning}
 
 -- 12 names a place or none
 cellOf : List ℕ → Refusal
-cellOf [] = BadCell
-cellOf (place ∷ vs) = BadCellAt place
+cellOf [] = refusal.BadCell
+cellOf (place ∷ vs) = refusal.BadCellAt place
 
 -- the refusals by number, with the values vs; no refusal has the numbers 0, 9 and 10
 byNumber : List ℕ → List Refusal
 byNumber vs =
-    LengthOutside ∷ LengthOutside ∷ RadiusAbove ∷ ShellTooLarge ∷ BufferLength ∷ MagnitudeSum ∷ IndexPastEnd ∷ BadTable (getD vs 0 0)
-    ∷ NoSuchPlace ∷ LengthOutside ∷ LengthOutside ∷ UnusableCoefficient (getD vs 0 0) ∷ cellOf vs ∷ NoSuchCoordinate ∷ []
+    refusal.LengthOutside
+    ∷ refusal.LengthOutside
+    ∷ refusal.RadiusAbove
+    ∷ refusal.ShellTooLarge
+    ∷ refusal.BufferLength
+    ∷ refusal.MagnitudeSum
+    ∷ refusal.IndexPastEnd
+    ∷ refusal.BadTable (getD vs 0 0)
+    ∷ refusal.NoSuchPlace
+    ∷ refusal.LengthOutside
+    ∷ refusal.LengthOutside
+    ∷ refusal.UnusableCoefficient (getD vs 0 0)
+    ∷ cellOf vs
+    ∷ refusal.NoSuchCoordinate
+    ∷ []
 
 pub refusalOf : List ℕ → Refusal
-refusalOf [] = LengthOutside
-refusalOf (n ∷ vs) = getD (byNumber vs) n LengthOutside
+refusalOf [] = refusal.LengthOutside
+refusalOf (n ∷ vs) = getD (byNumber vs) n refusal.LengthOutside
 
-reads-back : (r : Refusal) → refusalOf (meaning r) ≡ r
+-- The law of a refusal: it says a number above 0 and the values vs, and is read back from them.
+pub record Said (r : Refusal) : Type 0 where
+  pub before : ℕ
+  pub values : List ℕ
+  pub says : meaning r ≡ suc before ∷ values
+  pub back : refusalOf (suc before ∷ values) ≡ r
+
+says-back : {r : Refusal} (n : ℕ) (vs : List ℕ) → meaning r ≡ suc n ∷ vs → refusalOf (suc n ∷ vs) ≡ r → Said r
+says-back n vs says back = record { before = n; values = vs; says = says; back = back }
+
+pub said : (r : Refusal) → Said r
 unfolding refusalOf byNumber cellOf
-reads-back LengthOutside = refl
-reads-back RadiusAbove = refl
-reads-back ShellTooLarge = refl
-reads-back BufferLength = refl
-reads-back MagnitudeSum = refl
-reads-back IndexPastEnd = refl
-reads-back (BadTable row) = refl
-reads-back NoSuchPlace = refl
-reads-back (UnusableCoefficient coordinate) = refl
-reads-back BadCell = refl
-reads-back (BadCellAt place) = refl
-reads-back NoSuchCoordinate = refl
+said refusal.LengthOutside = says-back 0 [] refl refl
+said refusal.RadiusAbove = says-back 1 [] refl refl
+said refusal.ShellTooLarge = says-back 2 [] refl refl
+said refusal.BufferLength = says-back 3 [] refl refl
+said refusal.MagnitudeSum = says-back 4 [] refl refl
+said refusal.IndexPastEnd = says-back 5 [] refl refl
+said (refusal.BadTable row) = says-back 6 (row ∷ []) refl refl
+said refusal.NoSuchPlace = says-back 7 [] refl refl
+said (refusal.UnusableCoefficient coordinate) = says-back 10 (coordinate ∷ []) refl refl
+said refusal.BadCell = says-back 11 [] refl refl
+said (refusal.BadCellAt place) = says-back 11 (place ∷ []) refl refl
+said refusal.NoSuchCoordinate = says-back 12 [] refl refl
 
 -- what can be read back is one to one
 pub one-to-one : {A : Type 0} (says : A → List ℕ) (back : List ℕ → A) → ((a : A) → back (says a) ≡ a) → (a b : A) → says a ≡ says b → a ≡ b
 one-to-one says back h a b e = sym (h a) ∙ ap back e ∙ h b
 
 pub meaning-one-to-one : (r r′ : Refusal) → meaning r ≡ meaning r′ → r ≡ r′
-meaning-one-to-one = one-to-one meaning refusalOf reads-back
-
--- what a refusal says begins with a number above 0
-pub meaning-begins : (r : Refusal) → (n : ℕ) × (vs : List ℕ) × (meaning r ≡ suc n ∷ vs)
-meaning-begins LengthOutside = (0, [], refl)
-meaning-begins RadiusAbove = (1, [], refl)
-meaning-begins ShellTooLarge = (2, [], refl)
-meaning-begins BufferLength = (3, [], refl)
-meaning-begins MagnitudeSum = (4, [], refl)
-meaning-begins IndexPastEnd = (5, [], refl)
-meaning-begins (BadTable row) = (6, row ∷ [], refl)
-meaning-begins NoSuchPlace = (7, [], refl)
-meaning-begins (UnusableCoefficient coordinate) = (10, coordinate ∷ [], refl)
-meaning-begins BadCell = (11, [], refl)
-meaning-begins (BadCellAt place) = (11, place ∷ [], refl)
-meaning-begins NoSuchCoordinate = (12, [], refl)
+meaning-one-to-one = one-to-one meaning refusalOf (λ r. ap refusalOf (said r .says) ∙ said r .back)
 
 -- an answer is read back from 0 and its values, or from a refusal
 unfoldable pub answerOf : {A : Type 0} → (List ℕ → A) → (Refusal → A) → List ℕ → A
@@ -68,6 +76,4 @@ answerOf values refused (suc n ∷ vs) = refused (refusalOf (suc n ∷ vs))
 
 pub answer-refused : {A : Type 0} (values : List ℕ → A) (refused : Refusal → A) (r : Refusal) → answerOf values refused (meaning r) ≡ refused r
 unfolding answerOf
-answer-refused values refused r =
-    let b = meaning-begins r in
-    ap (answerOf values refused) (b .2) ∙ ap (λ (vs : List ℕ). refused (refusalOf vs)) (sym (b .2)) ∙ ap refused (reads-back r)
+answer-refused values refused r = ap (answerOf values refused) (said r .says) ∙ ap refused (said r .back)

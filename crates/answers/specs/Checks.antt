@@ -46,6 +46,9 @@ failsOf (c ∷ cs) = c .fails ∷ failsOf cs
 abbrev pub wrongLength : ℕ → ℕ → Bool
 wrongLength b n = not (eqb b n)
 
+abbrev pub lengthCheck : ℕ → ℕ → Check
+lengthCheck b n = record { number = 4; values = []; fails = wrongLength b n }
+
 -- a check for each number from i on, n of them: so rows, coordinates and places are judged, and the lowest at fault is named
 abbrev pub eachFrom : (ℕ → Check) → ℕ → ℕ → List Check
 eachFrom c i zero = []

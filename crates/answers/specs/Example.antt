@@ -5,9 +5,9 @@ use mathlib.Core.Path.{_≡_}
 use mathlib.Core.List.{List, [], _∷_}
 use mathlib.Core.Bool.{Bool, true, false}
 use lib.Dec.{ltb}
-use Rattle.answers.specs.Checks.{Check, anyOf, firstOf, leaves, numberSaid, wrongLength, eachFrom}
-use Rattle.answers.specs.Refusals.{meaning, numberOf, valueOf}
-use Rattle.answers.specs.declared.Refusal.the-variants.{LengthOutside, RadiusAbove, ShellTooLarge, BufferLength, MagnitudeSum, IndexPastEnd, BadTable, NoSuchPlace, UnusableCoefficient, BadCell, BadCellAt, NoSuchCoordinate}
+use Rattle.answers.specs.Checks.{Check, anyOf, firstOf, leaves, numberSaid, wrongLength, lengthCheck, eachFrom}
+use Rattle.answers.specs.Refusals.{meaning, numberOf, firstNamed, secondNamed}
+use Rattle.answers.specs.declared.Refusal.the-variants as refusal
 
 -- a check of number 4, and one of number 11 that names i, from 5 on failing
 abbrev pub four : Bool → Check
@@ -30,24 +30,26 @@ pub record Example : Type 0 where
   pub shorter : wrongLength 2 3 ≡ true
   pub right : wrongLength 3 3 ≡ false
   pub longer : wrongLength 4 3 ≡ true
+  pub refused-4 : firstOf (lengthCheck 2 3 ∷ []) (0 ∷ []) ≡ 4 ∷ []
   -- a check of several faults fails at any of them
   pub no-fault : anyOf [] ≡ false
   pub a-fault : anyOf (false ∷ true ∷ false ∷ []) ≡ true
   pub none-of-two : anyOf (false ∷ false ∷ []) ≡ false
   -- the refusals
-  pub refusal-1 : numberOf LengthOutside ≡ 1
-  pub refusal-2 : numberOf RadiusAbove ≡ 2
-  pub refusal-3 : numberOf ShellTooLarge ≡ 3
-  pub refusal-4 : numberOf BufferLength ≡ 4
-  pub refusal-5 : numberOf MagnitudeSum ≡ 5
-  pub refusal-6 : numberOf IndexPastEnd ≡ 6
-  pub refusal-7 : meaning (BadTable 30) ≡ 7 ∷ 30 ∷ []
-  pub refusal-8 : numberOf NoSuchPlace ≡ 8
-  pub refusal-11 : meaning (UnusableCoefficient 15) ≡ 11 ∷ 15 ∷ []
-  pub refusal-12 : meaning BadCell ≡ 12 ∷ []
-  pub refusal-12-at : meaning (BadCellAt 4095) ≡ 12 ∷ 4095 ∷ []
-  pub refusal-13 : numberOf NoSuchCoordinate ≡ 13
-  pub row-named : valueOf (BadTable 30) ≡ 30
-  pub coordinate-named : valueOf (UnusableCoefficient 15) ≡ 15
-  pub place-named : valueOf (BadCellAt 4095) ≡ 4095
-  pub nothing-named : valueOf BufferLength ≡ 0
+  pub refusal-1 : numberOf refusal.LengthOutside ≡ 1
+  pub refusal-2 : numberOf refusal.RadiusAbove ≡ 2
+  pub refusal-3 : numberOf refusal.ShellTooLarge ≡ 3
+  pub refusal-4 : numberOf refusal.BufferLength ≡ 4
+  pub refusal-5 : numberOf refusal.MagnitudeSum ≡ 5
+  pub refusal-6 : numberOf refusal.IndexPastEnd ≡ 6
+  pub refusal-7 : meaning (refusal.BadTable 30) ≡ 7 ∷ 30 ∷ []
+  pub refusal-8 : numberOf refusal.NoSuchPlace ≡ 8
+  pub refusal-11 : meaning (refusal.UnusableCoefficient 15) ≡ 11 ∷ 15 ∷ []
+  pub refusal-12 : meaning refusal.BadCell ≡ 12 ∷ []
+  pub refusal-12-at : meaning (refusal.BadCellAt 4095) ≡ 12 ∷ 4095 ∷ []
+  pub refusal-13 : numberOf refusal.NoSuchCoordinate ≡ 13
+  pub row-named : firstNamed (refusal.BadTable 30) ≡ 30
+  pub coordinate-named : firstNamed (refusal.UnusableCoefficient 15) ≡ 15
+  pub place-named : firstNamed (refusal.BadCellAt 4095) ≡ 4095
+  pub nothing-named : firstNamed refusal.BufferLength ≡ 0
+  pub one-named : secondNamed (refusal.BadTable 30) ≡ 0

@@ -1,14 +1,14 @@
 // The refusals of document 01, "Refusal numbers": one enum for every call. A case carries what the table names in brackets, or, for the
 // tally, the place; `meaning` in specs/Refusals.antt gives each case the document's number and values.
 ghost use mathlib.Core.Path.{_≡_};
-ghost use Rattle.answers.specs.Refusals.{numberOf, valueOf};
+ghost use Rattle.answers.specs.Refusals.{numberOf, firstNamed, secondNamed};
 
 pub enum Refusal {
     // 1: length outside 1 to 16
     LengthOutside,
     // 2: radius above 32
     RadiusAbove,
-    // 3: N above 2^32
+    // 3: a total above 2^32
     ShellTooLarge,
     // 4: a lent buffer has the wrong length
     BufferLength,
@@ -30,42 +30,37 @@ pub enum Refusal {
     NoSuchCoordinate,
 }
 
+// A refusal in numbers: its own, and those of the row, coordinate or place that it names, at most two; 0 where it names none.
+pub struct Numbers(pub u32, pub usize, pub usize);
+
+// What a check answers that has nothing to tell but whether it passed.
+pub enum Verdict {
+    Passed,
+    Refused(Refusal),
+}
+
+pub fn in_numbers(refusal: Refusal) -> Numbers
+    ensures { λ n. ⌜ (n .0 ≡ numberOf refusal) × (n .1 ≡ firstNamed refusal) × (n .2 ≡ secondNamed refusal) ⌝ }
+{
+    match refusal {
+        Refusal::LengthOutside => Numbers(1, 0, 0),
+        Refusal::RadiusAbove => Numbers(2, 0, 0),
+        Refusal::ShellTooLarge => Numbers(3, 0, 0),
+        Refusal::BufferLength => Numbers(4, 0, 0),
+        Refusal::MagnitudeSum => Numbers(5, 0, 0),
+        Refusal::IndexPastEnd => Numbers(6, 0, 0),
+        Refusal::BadTable { row } => Numbers(7, row, 0),
+        Refusal::NoSuchPlace => Numbers(8, 0, 0),
+        Refusal::UnusableCoefficient { coordinate } => Numbers(11, coordinate, 0),
+        Refusal::BadCell => Numbers(12, 0, 0),
+        Refusal::BadCellAt { place } => Numbers(12, place, 0),
+        Refusal::NoSuchCoordinate => Numbers(13, 0, 0),
+    }
+}
+
 // The number of a refusal, as C and the listing give it.
 pub fn number(refusal: Refusal) -> u32
     ensures { λ n. ⌜ n ≡ numberOf refusal ⌝ }
 {
-    match refusal {
-        Refusal::LengthOutside => 1,
-        Refusal::RadiusAbove => 2,
-        Refusal::ShellTooLarge => 3,
-        Refusal::BufferLength => 4,
-        Refusal::MagnitudeSum => 5,
-        Refusal::IndexPastEnd => 6,
-        Refusal::BadTable { row: _ } => 7,
-        Refusal::NoSuchPlace => 8,
-        Refusal::UnusableCoefficient { coordinate: _ } => 11,
-        Refusal::BadCell => 12,
-        Refusal::BadCellAt { place: _ } => 12,
-        Refusal::NoSuchCoordinate => 13,
-    }
-}
-
-// The row, coordinate or place that a refusal names; 0 where it names none.
-pub fn value(refusal: Refusal) -> usize
-    ensures { λ n. ⌜ n ≡ valueOf refusal ⌝ }
-{
-    match refusal {
-        Refusal::LengthOutside => 0,
-        Refusal::RadiusAbove => 0,
-        Refusal::ShellTooLarge => 0,
-        Refusal::BufferLength => 0,
-        Refusal::MagnitudeSum => 0,
-        Refusal::IndexPastEnd => 0,
-        Refusal::BadTable { row } => row,
-        Refusal::NoSuchPlace => 0,
-        Refusal::UnusableCoefficient { coordinate } => coordinate,
-        Refusal::BadCell => 0,
-        Refusal::BadCellAt { place } => place,
-        Refusal::NoSuchCoordinate => 0,
-    }
+    in_numbers(refusal).0
 }

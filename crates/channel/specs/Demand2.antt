@@ -9,7 +9,7 @@ use lib.Ieee.{Float, nan}
 use lib.IntN.{ℤ, pos}
 use lib.ListN.{length, getD}
 use Rattle.answers.specs.Checks.{numberSaid}
-use Rattle.counts.specs.Counts.{N, R, O, most, sumAfter}
+use Rattle.counts.specs.Counts.{N, R, O, mostNonzero, sumAfter}
 use Rattle.enumeration.specs.Enumeration.{Enumeration}
 use Rattle.enumeration.specs.Point.{OnShell, isNonzero, isNegative, nonzerosIn, sumOf}
 use Rattle.enumeration.specs.Product.{productIndex}
@@ -42,7 +42,7 @@ pub record Numbering (l k : ℕ) : Type 0 where
 
 -- N(l,k) is the sum of R(s), s = 1 to m, for radii above 0; radius 0 stands apart
 abbrev pub CountsSum : Type 0
-CountsSum = (l k : ℕ) → N l (suc k) ≡ sumAfter (λ s. R s l (suc k)) 0 (most l (suc k))
+CountsSum = (l k : ℕ) → N l (suc k) ≡ sumAfter (λ s. R s l (suc k)) 0 (mostNonzero l (suc k))
 
 -- bit j of an index is that of the nonzero coordinate which has exactly j nonzero coordinates after it, 1 for negative
 abbrev pub BitOfCoordinate : Type 0

@@ -10,24 +10,24 @@ use native.Mathlib.Omega.{arith}
 use native.Mathlib.Decide.{decLt}
 use native.Mathlib.Nat.{dvd-trans, dvd-mul-left, dvd-mul-right}
 use lib.Pow.{pow-add}
-use Rattle.counts.specs.Counts.{N, D, S, B, most, sumAfter, rangeSize, rangeStart, R, O}
+use Rattle.counts.specs.Counts.{N, D, S, B, mostNonzero, sumAfter, rangeSize, rangeStart, R, O}
 use Rattle.counts.proofs.Sums.{sum-first, sum-multiple}
 use Rattle.counts.proofs.Volume.{volume, R-past}
 
 module _ (F : ℕ → ℕ → ℕ) (l k : ℕ) where
-  pub range-next : (s : ℕ) → s < most l k → rangeStart F s l k ≡ rangeSize F (suc s) l k + rangeStart F (suc s) l k
+  pub range-next : (s : ℕ) → s < mostNonzero l k → rangeStart F s l k ≡ rangeSize F (suc s) l k + rangeStart F (suc s) l k
   unfolding rangeStart
   range-next s h =
-      let one : most l k - s ≡ suc (most l k - suc s) = omega arith in
-      rw one (sum-first (λ i. rangeSize F i l k) s (most l k - suc s))
+      let one : mostNonzero l k - s ≡ suc (mostNonzero l k - suc s) = omega arith in
+      rw one (sum-first (λ i. rangeSize F i l k) s (mostNonzero l k - suc s))
 
-  pub range-last : (s : ℕ) → most l k ≤ s → rangeStart F s l k ≡ 0
+  pub range-last : (s : ℕ) → mostNonzero l k ≤ s → rangeStart F s l k ≡ 0
   unfolding rangeStart sumAfter
   range-last s h =
-      let none : most l k - s ≡ 0 = omega arith in
+      let none : mostNonzero l k - s ≡ 0 = omega arith in
       rw none
 
-  pub range-down : (s : ℕ) → 0 < s → s ≤ most l k → rangeStart F (s - 1) l k ≡ rangeStart F s l k + rangeSize F s l k
+  pub range-down : (s : ℕ) → 0 < s → s ≤ mostNonzero l k → rangeStart F (s - 1) l k ≡ rangeStart F s l k + rangeSize F s l k
   range-down zero p h = omega arith
   range-down (suc s) p h =
       let less : suc s - 1 ≡ s = omega arith in
@@ -35,7 +35,7 @@ module _ (F : ℕ → ℕ → ℕ) (l k : ℕ) where
 
   pub range-multiple : (s : ℕ) → 2 ^ suc s ∣ rangeStart F s l k
   unfolding rangeStart rangeSize B
-  range-multiple s = sum-multiple (2 ^ suc s) (λ i. rangeSize F i l k) s (most l k - s) divides
+  range-multiple s = sum-multiple (2 ^ suc s) (λ i. rangeSize F i l k) s (mostNonzero l k - s) divides
     where
       divides : (i : ℕ) → s < i → 2 ^ suc s ∣ D i l * F i k * 2 ^ i
       divides i h =
@@ -45,16 +45,16 @@ module _ (F : ℕ → ℕ → ℕ) (l k : ℕ) where
 
 pub start-bound : (l k s : ℕ) → O s l k ≤ N l k
 start-bound l k zero = omega (arith, volume l k)
-start-bound l k (suc s) = go (decLt s (most l k)) (start-bound l k s)
+start-bound l k (suc s) = go (decLt s (mostNonzero l k)) (start-bound l k s)
   where
-    go : Dec (s < most l k) → O s l k ≤ N l k → O (suc s) l k ≤ N l k
+    go : Dec (s < mostNonzero l k) → O s l k ≤ N l k → O (suc s) l k ≤ N l k
     go (yes h) b = omega (arith, range-next S l k s h)
     go (no h) b = omega (arith, range-last S l k (suc s) (omega arith))
 
 pub end-bound : (l k s : ℕ) → O s l k + R s l k ≤ N l k
 end-bound l k zero = omega (arith, volume l k)
-end-bound l k (suc s) = go (decLt s (most l k))
+end-bound l k (suc s) = go (decLt s (mostNonzero l k))
   where
-    go : Dec (s < most l k) → O (suc s) l k + R (suc s) l k ≤ N l k
+    go : Dec (s < mostNonzero l k) → O (suc s) l k + R (suc s) l k ≤ N l k
     go (yes h) = omega (arith, range-next S l k s h, start-bound l k s)
     go (no h) = omega (arith, range-last S l k (suc s) (omega arith), R-past l k (suc s) (omega arith))

@@ -7,7 +7,7 @@ use mathlib.Core.Path.{_≡_, refl, sym, ap, ap₂, _∙_}
 use native.Mathlib.Omega.{arith}
 use native.Mathlib.Decide.{decLe}
 use native.Mathlib.Nat.{zero-mul, mul-zero, mul-assoc, one-mul, add-mul, mul-add, sub-zero, min-eq-left}
-use Rattle.counts.specs.Counts.{N, binomial, D, S, B, most, sumAfter, rangeSize, rangeStart, R, O}
+use Rattle.counts.specs.Counts.{N, binomial, D, S, B, mostNonzero, sumAfter, rangeSize, rangeStart, R, O}
 use Rattle.counts.proofs.Pascal.{D-small, S-none, S-addition, S-small, B-zero, B-next}
 use Rattle.counts.proofs.Sums.{sum-cong, sum-add, sum-first, sum-shift, sum-none, sum-cut}
 
@@ -99,7 +99,7 @@ N-total l k =
     N-spread l k ∙ sym (spread-total l (weight k) l (omega arith))
     ∙ total-cong (λ s. binomial l s * weight k s) (λ s. R s l k) (λ s. sym (mul-assoc (binomial l s) (S s k) (B s))) l
 
-pub R-past : (l k s : ℕ) → most l k < s → R s l k ≡ 0
+pub R-past : (l k s : ℕ) → mostNonzero l k < s → R s l k ≡ 0
 unfolding rangeSize
 R-past l k s h = go (decLe l k)
   where
@@ -110,7 +110,7 @@ R-past l k s h = go (decLe l k)
 pub volume : (l k : ℕ) → N l k ≡ R 0 l k + O 0 l k
 unfolding rangeStart
 volume l k =
-    let m = most l k in
+    let m = mostNonzero l k in
     let cut : sumAfter (λ s. R s l k) 0 (m + (l - m)) ≡ sumAfter (λ s. R s l k) 0 m =
     sum-cut (λ s. R s l k) 0 m (l - m) (λ i q. R-past l k i (omega arith)) in
     let whole : m + (l - m) ≡ l = omega arith in
@@ -124,6 +124,6 @@ volume-start l k =
     let none : D 0 l * S 0 (suc k) * B 0 ≡ 0 = rw (S-none k, mul-zero (D 0 l), zero-mul (B 0)) in
     omega (arith, volume l (suc k))
 
-pub volume-from-1 : (l k : ℕ) → N l (suc k) ≡ sumAfter (λ s. R s l (suc k)) 0 (most l (suc k))
+pub volume-from-1 : (l k : ℕ) → N l (suc k) ≡ sumAfter (λ s. R s l (suc k)) 0 (mostNonzero l (suc k))
 unfolding rangeStart
 volume-from-1 l k = rw sub-zero at (volume-start l k)

@@ -32,8 +32,8 @@ unfoldable pub B : ℕ → ℕ
 B s = 2 ^ s
 
 -- the largest number m of nonzero coordinates
-abbrev pub most : ℕ → ℕ → ℕ
-most l k = min l k
+abbrev pub mostNonzero : ℕ → ℕ → ℕ
+mostNonzero l k = min l k
 
 -- f(s+1) + f(s+2) + .. + f(s+n), the last term first
 unfoldable pub sumAfter : (ℕ → ℕ) → ℕ → ℕ → ℕ
@@ -46,7 +46,7 @@ unfoldable pub rangeSize : (ℕ → ℕ → ℕ) → ℕ → ℕ → ℕ → ℕ
 rangeSize F s l k = D s l * F s k * B s
 
 unfoldable pub rangeStart : (ℕ → ℕ → ℕ) → ℕ → ℕ → ℕ → ℕ
-rangeStart F s l k = sumAfter (λ i. rangeSize F i l k) s (most l k - s)
+rangeStart F s l k = sumAfter (λ i. rangeSize F i l k) s (mostNonzero l k - s)
 
 -- R = D x S x 2^s (eq. 15)
 abbrev pub R : ℕ → ℕ → ℕ → ℕ

@@ -9,7 +9,7 @@ use mathlib.Core.List.{List}
 use native.Mathlib.Omega.{arith}
 use lib.IntN.{ℤ, natAbs}
 use lib.ListN.{length}
-use Rattle.counts.specs.Counts.{D, S, B, most}
+use Rattle.counts.specs.Counts.{D, S, B, mostNonzero}
 use Rattle.enumeration.specs.Point.{sumOf, radiusOf, isNegative, patternIn, nonzeros, nonzerosIn, shapeIn, signsIn}
 use Rattle.enumeration.specs.Product.{patternIndex, shapeIndex, signIndex}
 use Rattle.enumeration.specs.Reading.{patternOf, shapeOf, signsOf, signAll, spread, pointFrom}
@@ -29,7 +29,7 @@ module _ (x : List ℤ) where
   unfolding B
   sign-part = rw (support-many isNegative x) at (sign-below (signsIn x))
 
-  pub nonzeros-part : nonzerosIn x ≤ most (length x) (radiusOf x)
+  pub nonzeros-part : nonzerosIn x ≤ mostNonzero (length x) (radiusOf x)
   nonzeros-part =
       let a : nonzerosIn x ≤ length x = omega (arith, nonzeros-most (patternIn x), pattern-length x) in
       let b : nonzerosIn x ≤ radiusOf x = omega (arith, positive-most (shapeIn x) (shape-positive x), support-many natAbs x, shape-sum x) in

@@ -1,5 +1,4 @@
--- The product enumeration numbers the points of every shell, for all lengths and radii: `product` is the instance of Enumeration. Its laws
--- hang on one number, the position in a range, which signs, shapes and patterns make up as digits. Assumes nothing.
+-- The product enumeration is lawful: it numbers the points of every shell, for all lengths and radii. Its laws hang on one number, the position in a range, which signs, shapes and patterns make up as digits. Assumes nothing.
 use Prim.Native.Nat.{ℕ, zero, suc, _+_, _-_, _*_, _/_, _%_, _^_, _≤_, _<_}
 use mathlib.Core.Path.{_≡_, refl, ap, _∙_}
 use mathlib.Core.List.{List}
@@ -9,10 +8,11 @@ use lib.Arith.{digits-lt, digits-div, digits-mod}
 use lib.IntN.{ℤ}
 use lib.ListN.{length}
 use lib.Pow.{pow-pos}
-use Rattle.counts.specs.Counts.{N, binomial, D, S, B, R, O, most, sumAfter, rangeSize, rangeStart}
+use Rattle.counts.specs.Counts.{N, binomial, D, S, B, R, O, mostNonzero, sumAfter, rangeSize, rangeStart}
 use Rattle.counts.proofs.Ranges.{end-bound}
 use Rattle.enumeration.specs.Point.{OnShell, radiusOf, patternIn, nonzerosIn, shapeIn, signsIn}
-use Rattle.enumeration.specs.Enumeration.{Enumeration}
+use Rattle.enumeration.specs.Enumeration.{Lawful, Full}
+use Rattle.enumeration.specs.Enumerations.{product}
 use Rattle.enumeration.specs.Product.{patternIndex, shapeIndex, signIndex, weigh, productIndex}
 use Rattle.enumeration.specs.Reading.{rangeOf, pointFrom, pointIn, productPoint}
 use Rattle.enumeration.proofs.RangeOf.{Holds, range-holds, range-found}
@@ -33,11 +33,11 @@ module _ (s l k pattern shape sign : ℕ) (p : pattern < D s l) (h : shape < S s
   unfolding rangeSize
   position-below = digits-lt (digits-lt p h) g
 
-  weigh-holds : s ≤ most l k → Holds l k (weigh s l k pattern shape sign) s
+  weigh-holds : s ≤ mostNonzero l k → Holds l k (weigh s l k pattern shape sign) s
   unfolding weigh
   weigh-holds m = record { to-most = m; from-start = omega arith; to-end = omega (arith, position-below) }
 
-  weigh-point : s ≤ most l k
+  weigh-point : s ≤ mostNonzero l k
       → productPoint l k (weigh s l k pattern shape sign) ≡ pointFrom s l k pattern shape ((pattern * S s k + shape) * B s + sign)
   unfolding productPoint pointIn weigh
   weigh-point m =
@@ -130,14 +130,16 @@ index-of-point l k n h =
     let same = position-back s l k within (r .0) in
     rw (y .of-nonzeros, y .of-length, y .of-radius, y .of-pattern, y .of-shape, y .of-sign) (omega (arith, r .1))
 
-abbrev pub product : Enumeration
-product =
+-- so it is lawful, and every index below N names a point
+pub product-lawful : Lawful product
+product-lawful =
     record {
-      total = N;
-      index = productIndex;
-      point = productPoint;
       index-below = index-below;
+      index-names = λ l k x on. refl;
       point-of-index = point-of-index;
-      point-on-shell = point-on-shell;
-      index-of-point = index-of-point;
+      point-on-shell = λ l k n below named. point-on-shell l k n below;
+      index-of-point = λ l k n below named. index-of-point l k n below;
     }
+
+pub product-full : Full product
+product-full l k n below = refl

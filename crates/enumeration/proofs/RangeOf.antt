@@ -13,14 +13,14 @@ use native.Mathlib.Nat.{le-refl}
 use mathlib.Core.Bool.{Bool, true, false, and-eq-true-iff}
 use lib.Dec.{leb, ltb}
 use borrow.Author.Tests.{ltb-true, lt-ltb, le-ltb, le-leb}
-use Rattle.counts.specs.Counts.{N, S, R, O, most}
+use Rattle.counts.specs.Counts.{N, S, R, O, mostNonzero}
 use Rattle.counts.proofs.Ranges.{range-next, range-last, end-bound}
 use Rattle.counts.proofs.Volume.{volume, volume-start}
 use Rattle.enumeration.specs.Reading.{inRange, rangeFrom, rangeOf}
 
 -- n is in the range for s
 pub record Holds (l k n s : ℕ) : Type 0 where
-  pub to-most : s ≤ most l k
+  pub to-most : s ≤ mostNonzero l k
   pub from-start : O s l k ≤ n
   pub to-end : n < O s l k + R s l k
 
@@ -40,7 +40,7 @@ module _ (l k n : ℕ) where
   unfolding rangeFrom
   pass s h = rw (passed (suc s) h, rangeFrom)
 
-  pub range-first : rangeOf l k n ≡ rangeFrom l k n (most l k)
+  pub range-first : rangeOf l k n ≡ rangeFrom l k n (mostNonzero l k)
   unfolding rangeOf
   range-first = refl
 
@@ -56,13 +56,13 @@ module _ (l k n : ℕ) where
   unfolding rangeFrom
   range-end = refl
 
-pub starts-down : (l k s t : ℕ) → s ≤ t → t ≤ most l k → O t l k ≤ O s l k
-starts-down l k s t h q = le-ind (λ (u : ℕ). u ≤ most l k → O u l k ≤ O s l k) (λ p. le-refl (O s l k)) down t h q
+pub starts-down : (l k s t : ℕ) → s ≤ t → t ≤ mostNonzero l k → O t l k ≤ O s l k
+starts-down l k s t h q = le-ind (λ (u : ℕ). u ≤ mostNonzero l k → O u l k ≤ O s l k) (λ p. le-refl (O s l k)) down t h q
   where
-    down : (u : ℕ) → s ≤ u → (u ≤ most l k → O u l k ≤ O s l k) → suc u ≤ most l k → O (suc u) l k ≤ O s l k
+    down : (u : ℕ) → s ≤ u → (u ≤ mostNonzero l k → O u l k ≤ O s l k) → suc u ≤ mostNonzero l k → O (suc u) l k ≤ O s l k
     down u p e r = omega (arith, e (omega arith), range-next S l k u r)
 
-holds-from : (l k n t : ℕ) → n < N l k → t ≤ most l k → O t l k ≤ n → Holds l k n (rangeFrom l k n t)
+holds-from : (l k n t : ℕ) → n < N l k → t ≤ mostNonzero l k → O t l k ≤ n → Holds l k n (rangeFrom l k n t)
 holds-from l k n zero h q p =
     rw (range-end l k n) (record { to-most = q; from-start = p; to-end = omega (arith, volume l k) })
 holds-from l k n (suc t) h q p =
@@ -78,9 +78,9 @@ holds-from l k n (suc t) h q p =
 pub range-holds : (l k n : ℕ) → n < N l k → Holds l k n (rangeOf l k n)
 range-holds l k n h =
     rw (range-first l k n)
-    (holds-from l k n (most l k) h (le-refl (most l k)) (omega (arith, range-last S l k (most l k) (le-refl (most l k)))))
+    (holds-from l k n (mostNonzero l k) h (le-refl (mostNonzero l k)) (omega (arith, range-last S l k (mostNonzero l k) (le-refl (mostNonzero l k)))))
 
-found-from : (l k n s t : ℕ) → Holds l k n s → s ≤ t → t ≤ most l k → rangeFrom l k n t ≡ s
+found-from : (l k n s t : ℕ) → Holds l k n s → s ≤ t → t ≤ mostNonzero l k → rangeFrom l k n t ≡ s
 found-from l k n s zero h p q = let none : s ≡ 0 = omega arith in rw none (range-end l k n)
 found-from l k n s (suc t) h p q = go (decLt t s) (λ r. found-from l k n s t h r (omega arith))
   where
@@ -92,7 +92,7 @@ found-from l k n s (suc t) h p q = go (decLt t s) (λ r. found-from l k n s t h 
         pass l k n t (omega (arith, h .from-start, starts-down l k s t (omega arith) (omega arith), range-next S l k t q)) ∙ rest (omega arith)
 
 pub range-found : (l k n s : ℕ) → Holds l k n s → rangeOf l k n ≡ s
-range-found l k n s h = range-first l k n ∙ found-from l k n s (most l k) h (h .to-most) (le-refl (most l k))
+range-found l k n s h = range-first l k n ∙ found-from l k n s (mostNonzero l k) h (h .to-most) (le-refl (mostNonzero l k))
 
 -- where a range from 1 on is found it holds n
 from-holds : (l k n t : ℕ) → 0 < rangeFrom l k n t → n < N l k
@@ -109,7 +109,7 @@ from-holds l k n (suc t) h = go (inRange l k n (suc t)) refl h (from-holds l k n
     go false e p rest = rest p
 
 pub found-below : (l k n : ℕ) → 0 < rangeOf l k n → n < N l k
-found-below l k n h = from-holds l k n (most l k) (rw (range-first l k n) at h)
+found-below l k n h = from-holds l k n (mostNonzero l k) (rw (range-first l k n) at h)
 
 pub none-above : (l k n : ℕ) → N l k ≤ n → rangeOf l k n ≡ 0
 none-above l k n h = go (decLt 0 (rangeOf l k n))

@@ -6,7 +6,7 @@ use mathlib.Core.List.{List, [], _∷_}
 use mathlib.Core.Bool.{Bool, true, false, _&&_}
 use lib.Dec.{leb, ltb, eqb}
 use lib.IntN.{ℤ, pos}
-use Rattle.counts.specs.Counts.{D, S, B, R, O, most}
+use Rattle.counts.specs.Counts.{D, S, B, R, O, mostNonzero}
 use Rattle.enumeration.specs.Point.{signed}
 
 -- the range for s holds n: the R numbers from O(s) on
@@ -20,7 +20,7 @@ rangeFrom l k n (suc s) = elim (inRange l k n (suc s)) [ true ↦ suc s | false 
 
 -- the first s, counted down from m, whose range holds it
 unfoldable pub rangeOf : ℕ → ℕ → ℕ → ℕ
-rangeOf l k n = rangeFrom l k n (most l k)
+rangeOf l k n = rangeFrom l k n (mostNonzero l k)
 
 -- The n-th pattern of s nonzero coordinates among l. The D(s,l-1) patterns that begin with a zero come first.
 unfoldable pub patternOf : ℕ → ℕ → ℕ → List Bool

@@ -4,7 +4,7 @@ use Prim.Native.Nat.{ℕ, zero, suc, _-_, _/_, _%_, _^_, _≤_, _<_}
 use mathlib.Core.Path.{_≡_, refl, ap, _∙_}
 use native.Mathlib.Omega.{arith}
 use native.Mathlib.Nat.{div-le-self, lt-of-le-of-lt}
-use Rattle.counts.specs.Counts.{D, S, B, R, most}
+use Rattle.counts.specs.Counts.{D, S, B, R, mostNonzero}
 use Rattle.counts.proofs.Pascal.{D-zero, S-none}
 use Rattle.counts.proofs.Ranges.{end-bound}
 use Rattle.enumeration.specs.Reading.{pointIn, productPoint}
@@ -21,7 +21,7 @@ module _ (l k n s start : ℕ) (p : IsIndexOf l k n s start) where
   within-below =
       omega (arith, start-to, p .range-start, rw (← p .range-s) at (range-holds l k n (p .index-below) .to-end))
 
-  pub s-to-most : s ≤ most l k
+  pub s-to-most : s ≤ mostNonzero l k
   s-to-most = rw (← p .range-s) at (range-holds l k n (p .index-below) .to-most)
 
   pub block-below : (n - start) / 2 ^ s < 2 ^ 32

@@ -52,8 +52,8 @@ pub fn sign_count(s: usize) -> u64
 }
 
 // The largest number m of nonzero coordinates, the smaller of l and k.
-pub fn most(length: Length, radius: Radius) -> usize
-    ensures { λ m. ⌜ m ≡ counted.most (length .0) (radius .0) ⌝ }
+pub fn most_nonzero(length: Length, radius: Radius) -> usize
+    ensures { λ m. ⌜ m ≡ counted.mostNonzero (length .0) (radius .0) ⌝ }
 {
     if length.0 < radius.0 {
         length.0
@@ -102,7 +102,7 @@ pub fn range_start(s: usize, length: Length, radius: Radius) -> u64
     requires { ⌜ IsUsable (length .0) (radius .0) ⌝ }
     ensures { λ r. ⌜ r ≡ O s (length .0) (radius .0) ⌝ }
 {
-    let mut i = most(length, radius);
+    let mut i = most_nonzero(length, radius);
     let mut start: u64 = 0;
     while s < i {
         start += range_size(i, length, radius);

@@ -1,12 +1,12 @@
 -- Every line of the example holds by computation. Assumes nothing.
 use mathlib.Core.Path.{refl}
 use Rattle.counts.specs.Counts.{N}
-use Rattle.tables.specs.Row.{byteOf, badRadius, badRadii, badRow}
-use Rattle.tables.specs.Table.{placesBefore, rowsBefore}
+use Rattle.tables.specs.Row.{byteOf, enumerationOf, badRadius, badRadii, badRow}
+use Rattle.tables.specs.Table.{rowAt, placesBefore, rowsBefore}
 use Rattle.tables.specs.Example.{Example}
 
 pub example : Example
-unfolding N byteOf badRadius badRadii badRow placesBefore rowsBefore
+unfolding N byteOf enumerationOf badRadius badRadii badRow rowAt placesBefore rowsBefore
 example =
     record {
       length-0 = refl;
@@ -20,6 +20,9 @@ example =
       step-0 = refl;
       step-1 = refl;
       places-1 = refl;
+      first-row = refl;
+      second-row = refl;
+      no-row = refl;
       good-0 = refl;
       good-1 = refl;
       no-step = refl;
@@ -54,6 +57,8 @@ example =
       row-of-1 = refl;
       row-of-2 = refl;
       row-of-261 = refl;
+      length-at-1 = refl;
+      length-at-2 = refl;
       place-261 = refl;
       place-262 = refl;
       none = refl;

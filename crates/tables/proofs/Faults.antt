@@ -10,12 +10,12 @@ use lib.Dec.{eqb, leb, ltb}
 use borrow.Author.Tests.{lt-ltb, le-ltb}
 use Rattle.counts.specs.Counts.{N}
 use Rattle.tables.specs.Largest.{largestRadius}
-use Rattle.tables.specs.Usable.{mostPoints}
+use Rattle.tables.specs.Usable.{mostPoints, unusableShell}
 use Rattle.tables.proofs.Largest.{largest-to, usable-up-to, unusable-past}
-use Rattle.tables.specs.Row.{lengthOf, radiiOf, radiusAt, unusable, outOfOrder, badRadius, badRadii}
+use Rattle.tables.specs.Row.{radiiOf, radiusAt, unusableRadius, outOfOrder, badRadius, badRadii}
 
--- a radius is unusable exactly above the largest of the length
-pub above-largest : (l k : ℕ) → 1 ≤ l → l ≤ 16 → ltb (largestRadius l) k ≡ unusable l k
+-- a shell of N points is unusable exactly above the largest radius of its length
+pub above-largest : (l k : ℕ) → 1 ≤ l → l ≤ 16 → ltb (largestRadius l) k ≡ unusableShell l k (N l k)
 above-largest l k p q = rw (le-ltb l 1 p, le-ltb 16 l q) (go (decLt 32 k) (decLe k (largestRadius l)))
   where
     go : Dec (32 < k) → Dec (k ≤ largestRadius l) → ltb (largestRadius l) k ≡ (ltb 32 k || (ltb mostPoints (N l k) || false))
@@ -24,43 +24,43 @@ above-largest l k p q = rw (le-ltb l 1 p, le-ltb 16 l q) (go (decLt 32 k) (decLe
     go (no h) (no g) =
         rw (le-ltb 32 k (omega arith), lt-ltb (largestRadius l) k (omega arith), lt-ltb mostPoints (N l k) (unusable-past l k p q (omega arith) (omega arith)))
 
-module _ (t : List ℕ) (r n : ℕ) where
-  pub unused-says : radiiOf t r ≤ n → not (eqb (radiusAt t r n) 0) ≡ badRadius t r n
+module _ (row : List ℕ) (n : ℕ) where
+  pub unused-says : radiiOf row ≤ n → not (eqb (radiusAt row n) 0) ≡ badRadius row n
   unfolding badRadius
-  unused-says h = rw (le-ltb n (radiiOf t r) h)
+  unused-says h = rw (le-ltb n (radiiOf row) h)
 
-  pub disorder-says : n < radiiOf t r → outOfOrder t r n ≡ true → true ≡ badRadius t r n
+  pub disorder-says : n < radiiOf row → outOfOrder row n ≡ true → true ≡ badRadius row n
   unfolding badRadius
-  disorder-says h e = rw (lt-ltb n (radiiOf t r) h, e)
+  disorder-says h e = rw (lt-ltb n (radiiOf row) h, e)
 
-  pub used-says : n < radiiOf t r → outOfOrder t r n ≡ false → unusable (lengthOf t r) (radiusAt t r n) ≡ badRadius t r n
+  pub used-says : n < radiiOf row → outOfOrder row n ≡ false → unusableRadius row (radiusAt row n) ≡ badRadius row n
   unfolding badRadius
-  used-says h e = rw (lt-ltb n (radiiOf t r) h, e) (sym (or-false (unusable (lengthOf t r) (radiusAt t r n))))
+  used-says h e = rw (lt-ltb n (radiiOf row) h, e) (sym (or-false (unusableRadius row (radiusAt row n))))
 
 -- a bad radius among the first n
-pub radius-bad : (t : List ℕ) (r i n : ℕ) → i < n → badRadius t r i ≡ true → badRadii t r n ≡ true
+pub radius-bad : (row : List ℕ) (i n : ℕ) → i < n → badRadius row i ≡ true → badRadii row n ≡ true
 unfolding badRadii
-radius-bad t r i zero h e = absurd (omega arith)
-radius-bad t r i (suc n) h e = go (decLt i n) (λ g. radius-bad t r i n g e)
+radius-bad row i zero h e = absurd (omega arith)
+radius-bad row i (suc n) h e = go (decLt i n) (λ g. radius-bad row i n g e)
   where
-    go : Dec (i < n) → (i < n → badRadii t r n ≡ true) → (badRadii t r n || badRadius t r n) ≡ true
+    go : Dec (i < n) → (i < n → badRadii row n ≡ true) → (badRadii row n || badRadius row n) ≡ true
     go (yes g) rest = rw (rest g)
-    go (no g) rest = let same : i ≡ n = omega arith in rw (sym same, e) (or-true (badRadii t r i))
+    go (no g) rest = let same : i ≡ n = omega arith in rw (sym same, e) (or-true (badRadii row i))
 
 -- none is bad: then not the one at i
-pub radius-at : (t : List ℕ) (r i n : ℕ) → i < n → badRadii t r n ≡ false → badRadius t r i ≡ false
-radius-at t r i n h e = go (badRadius t r i) refl
+pub radius-at : (row : List ℕ) (i n : ℕ) → i < n → badRadii row n ≡ false → badRadius row i ≡ false
+radius-at row i n h e = go (badRadius row i) refl
   where
-    go : (b : Bool) → badRadius t r i ≡ b → badRadius t r i ≡ false
-    go true g = absurd (false≢true (sym e ∙ radius-bad t r i n h g))
+    go : (b : Bool) → badRadius row i ≡ b → badRadius row i ≡ false
+    go true g = absurd (false≢true (sym e ∙ radius-bad row i n h g))
     go false g = g
 
 -- one position more is good
-pub radius-good : (t : List ℕ) (r n : ℕ) → badRadii t r n ≡ false → badRadius t r n ≡ false → badRadii t r (n + 1) ≡ false
+pub radius-good : (row : List ℕ) (n : ℕ) → badRadii row n ≡ false → badRadius row n ≡ false → badRadii row (n + 1) ≡ false
 unfolding badRadii
-radius-good t r n all e = rw (add-one, badRadii, all) e
+radius-good row n all e = rw (add-one, badRadii, all) e
 
 -- past the first radius the one before is at n - 1
-pub next-says : (t : List ℕ) (r n : ℕ) → (n ≡ 0 → ⊥) → leb (radiusAt t r n) (radiusAt t r (n - 1)) ≡ outOfOrder t r n
-next-says t r zero h = absurd (h refl)
-next-says t r (suc n) h = let one : suc n - 1 ≡ n = omega arith in rw one
+pub next-says : (row : List ℕ) (n : ℕ) → (n ≡ 0 → ⊥) → leb (radiusAt row n) (radiusAt row (n - 1)) ≡ outOfOrder row n
+next-says row zero h = absurd (h refl)
+next-says row (suc n) h = let one : suc n - 1 ≡ n = omega arith in rw one

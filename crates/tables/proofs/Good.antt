@@ -10,8 +10,8 @@ use borrow.Author.Tests.{ltb-false}
 use Rattle.answers.specs.Checks.{NoneOf}
 use Rattle.answers.proofs.InOrder.{none-of}
 use Rattle.answers.proofs.Each.{each-passes}
-use Rattle.tables.specs.Row.{badRow, GoodRow, rowsOf}
-use Rattle.tables.specs.Table.{RightSize, placesBefore, placesIn, passesTotal, rowCheck, Good, rowOf}
+use Rattle.tables.specs.Row.{badRow, GoodRow}
+use Rattle.tables.specs.Table.{rowsOf, rowAt, RightSize, placesBefore, placesIn, passesTotal, rowCheck, Good, rowOf, rowFor}
 use Rattle.tables.proofs.Places.{row-below}
 use Rattle.tables.proofs.GoodRow.{is-zero, good-exactly}
 
@@ -25,11 +25,11 @@ right-size t good =
     record { rows-from = omega arith; rows-to = omega arith; whole = omega arith }
 
 module _ (t : List ℕ) (good : Good t) where
-  row-good : (r : ℕ) → r < rowsOf t → NoneOf (badRow t r ∷ passesTotal t r ∷ [])
-  row-good r h = none-of (badRow t r ∷ passesTotal t r ∷ []) (each-passes (rowCheck t) 0 (rowsOf t) r (good .1) (omega arith) (omega arith))
+  row-good : (r : ℕ) → r < rowsOf t → NoneOf (badRow (rowAt t r) ∷ passesTotal t r ∷ [])
+  row-good r h = none-of (badRow (rowAt t r) ∷ passesTotal t r ∷ []) (each-passes (rowCheck t) 0 (rowsOf t) r (good .1) (omega arith) (omega arith))
 
-  pub good-row : (r : ℕ) → r < rowsOf t → GoodRow t r
-  good-row r h = good-exactly t r .0 (row-good r h .0)
+  pub good-row : (r : ℕ) → r < rowsOf t → GoodRow (rowAt t r)
+  good-row r h = good-exactly (rowAt t r) .0 (row-good r h .0)
 
   pub good-total : (r : ℕ) → r ≤ rowsOf t → placesBefore t r ≤ 4096
   unfolding placesBefore
@@ -37,5 +37,5 @@ module _ (t : List ℕ) (good : Good t) where
   good-total (suc r) h = ltb-false 4096 (placesBefore t (suc r)) (row-good r (omega arith) .1 .0)
 
 -- the row of a place of a good table
-pub good-place : (t : List ℕ) (p : ℕ) → Good t → p < placesIn t → (rowOf t p < rowsOf t) × GoodRow t (rowOf t p)
+pub good-place : (t : List ℕ) (p : ℕ) → Good t → p < placesIn t → (rowOf t p < rowsOf t) × GoodRow (rowFor t p)
 good-place t p good h = let below = row-below t p h in (below, good-row t good (rowOf t p) below)

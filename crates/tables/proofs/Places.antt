@@ -5,8 +5,8 @@ use mathlib.Core.Path.{_≡_, refl, sym, ap, _∙_}
 use mathlib.Core.List.{List}
 use native.Mathlib.Omega.{arith}
 use native.Mathlib.Decide.{decLt, decLe}
-use Rattle.tables.specs.Row.{placesOf, rowsOf}
-use Rattle.tables.specs.Table.{placesBefore, placesIn, InRow, rowsBefore, rowOf}
+use Rattle.tables.specs.Row.{placesOf}
+use Rattle.tables.specs.Table.{rowsOf, rowAt, placesBefore, placesIn, InRow, rowsBefore, rowOf}
 use Rattle.tables.proofs.Rows.{total-next, ends-before, ends-after}
 
 places-grow : (t : List ℕ) (i j : ℕ) → i ≤ j → placesBefore t i ≤ placesBefore t j
@@ -52,7 +52,7 @@ module _ (t : List ℕ) (p : ℕ) where
   row-only r h a = row-unique t p r (rowOf t p) a (row-holds h)
 
 -- place i of row r
-pub place-in : (t : List ℕ) (r i : ℕ) → r < rowsOf t → i < placesOf t r
+pub place-in : (t : List ℕ) (r i : ℕ) → r < rowsOf t → i < placesOf (rowAt t r)
     → (placesBefore t r + i < placesIn t) × (rowOf t (placesBefore t r + i) ≡ r)
 place-in t r i h g =
     let p = placesBefore t r + i in

@@ -9,8 +9,8 @@ use native.Mathlib.Decide.{decLe}
 use lib.ListN.{length}
 use borrow.Author.Tests.{lt-ltb, le-ltb, le-leb, lt-leb}
 use Rattle.answers.specs.Checks.{firstOf, eachFrom}
-use Rattle.tables.specs.Row.{placesOf, badRow, rowsOf}
-use Rattle.tables.specs.Table.{wrongSize, placesBefore, passesTotal, rowCheck, tableChecks, rowsBefore}
+use Rattle.tables.specs.Row.{placesOf, badRow}
+use Rattle.tables.specs.Table.{rowsOf, rowAt, wrongSize, placesBefore, passesTotal, rowCheck, tableChecks, rowsBefore}
 
 -- a table of the right size is judged by its rows
 pub size-passes : (t : List ℕ) → wrongSize (length t) ≡ false → (answer : List ℕ)
@@ -18,7 +18,7 @@ pub size-passes : (t : List ℕ) → wrongSize (length t) ≡ false → (answer 
 size-passes t e answer = let all : rowsOf t - 0 ≡ rowsOf t = omega arith in rw (e, all)
 
 module _ (t : List ℕ) (r : ℕ) where
-  pub total-next : placesBefore t (suc r) ≡ placesBefore t r + placesOf t r
+  pub total-next : placesBefore t (suc r) ≡ placesBefore t r + placesOf (rowAt t r)
   unfolding placesBefore
   total-next = refl
 
@@ -29,13 +29,13 @@ module _ (t : List ℕ) (r : ℕ) where
   within-total : placesBefore t (suc r) ≤ 4096 → passesTotal t r ≡ false
   within-total h = le-ltb _ (placesBefore t (suc r)) (omega arith)
 
-  pub row-fails : badRow t r ≡ true → rowCheck t r .fails ≡ true
+  pub row-fails : badRow (rowAt t r) ≡ true → rowCheck t r .fails ≡ true
   row-fails e = rw e
 
-  pub total-fails : badRow t r ≡ false → 4096 < placesBefore t (suc r) → rowCheck t r .fails ≡ true
+  pub total-fails : badRow (rowAt t r) ≡ false → 4096 < placesBefore t (suc r) → rowCheck t r .fails ≡ true
   total-fails e h = rw (e, past-total h)
 
-  pub row-passes : badRow t r ≡ false → placesBefore t (suc r) ≤ 4096 → rowCheck t r .fails ≡ false
+  pub row-passes : badRow (rowAt t r) ≡ false → placesBefore t (suc r) ≤ 4096 → rowCheck t r .fails ≡ false
   row-passes e h = rw (e, within-total h)
 
 module _ (t : List ℕ) (p : ℕ) where

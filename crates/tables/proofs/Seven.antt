@@ -15,8 +15,7 @@ use Rattle.answers.proofs.Each.{each-numbered}
 use Rattle.answers.proofs.InOrder.{Numbered, says-passes, passes-says}
 use Rattle.answers.proofs.OneNumber.{OfNumber, each-of, one-number-last}
 use Rattle.answers.specs.Checks.{numberSaid, anyOf, firstOf, failsOf}
-use Rattle.tables.specs.Row.{rowsOf}
-use Rattle.tables.specs.Table.{wrongSize, tableRoom, placesIn, rowCheck, tableChecks, checkSays, Good}
+use Rattle.tables.specs.Table.{rowsOf, wrongSize, tableRoom, placesIn, rowCheck, tableChecks, checkSays, Good}
 
 pub table-numbered : (t : List ℕ) → Numbered (tableChecks t)
 table-numbered t = (lit< tt, each-numbered (rowCheck t) 0 (rowsOf t) (λ r. lit< tt))

@@ -22,19 +22,19 @@ within-limit : (n : ℕ) → n ≤ mostPoints → tooMany n ≡ false
 within-limit n h = le-ltb _ n (omega arith)
 
 module _ (l k : ℕ) (answer : List ℕ) where
-  pub below-says : l < 1 → 1 ∷ [] ≡ firstOf (shellChecks l k) answer
+  pub below-says : l < 1 → 1 ∷ [] ≡ firstOf (shellChecks l k (N l k)) answer
   below-says h = rw (lt-ltb l 1 h)
 
-  pub above-says : 16 < l → 1 ∷ [] ≡ firstOf (shellChecks l k) answer
+  pub above-says : 16 < l → 1 ∷ [] ≡ firstOf (shellChecks l k (N l k)) answer
   above-says h = rw (le-ltb l 1 (omega arith), lt-ltb 16 l h)
 
-  pub radius-says : 1 ≤ l → l ≤ 16 → 32 < k → 2 ∷ [] ≡ firstOf (shellChecks l k) answer
+  pub radius-says : 1 ≤ l → l ≤ 16 → 32 < k → 2 ∷ [] ≡ firstOf (shellChecks l k (N l k)) answer
   radius-says p q h = rw (le-ltb l 1 p, le-ltb 16 l q, lt-ltb 32 k h)
 
-  pub past-says : 1 ≤ l → l ≤ 16 → k ≤ 32 → largestRadius l < k → 3 ∷ [] ≡ firstOf (shellChecks l k) answer
+  pub past-says : 1 ≤ l → l ≤ 16 → k ≤ 32 → largestRadius l < k → 3 ∷ [] ≡ firstOf (shellChecks l k (N l k)) answer
   past-says p q r h = rw (le-ltb l 1 p, le-ltb 16 l q, le-ltb 32 k r, past-limit (N l k) (unusable-past l k p q r h))
 
-  pub usable-says : 1 ≤ l → l ≤ 16 → k ≤ 32 → k ≤ largestRadius l → answer ≡ firstOf (shellChecks l k) answer
+  pub usable-says : 1 ≤ l → l ≤ 16 → k ≤ 32 → k ≤ largestRadius l → answer ≡ firstOf (shellChecks l k (N l k)) answer
   usable-says p q r h = rw (le-ltb l 1 p, le-ltb 16 l q, le-ltb 32 k r, within-limit (N l k) (usable-up-to l k p q h))
 
 -- a length that is not refused
@@ -43,22 +43,22 @@ length-inside l e =
     let none = none-of (ltb l 1 ∷ ltb 16 l ∷ []) e in
     (ltb-false l 1 (none .0), ltb-false 16 l (none .1 .0))
 
-pub passes-usable : (l k : ℕ) → Passes (shellChecks l k) → IsUsable l k
-passes-usable l k p =
+pub passes-usable : (l k total : ℕ) → Passes (shellChecks l k total) → IsUsable l k total
+passes-usable l k total p =
     let inside = length-inside l (p .0) in
     record {
       length-from = inside .0;
       length-to = inside .1;
       radius-to = ltb-false 32 k (p .1 .0);
-      points-to = ltb-false mostPoints (N l k) (p .1 .1 .0);
+      points-to = ltb-false mostPoints total (p .1 .1 .0);
     }
 
 -- the checks let the shell through: then all pass
-pub let-through : (l k : ℕ) → 0 ∷ [] ≡ firstOf (shellChecks l k) (0 ∷ []) → Passes (shellChecks l k)
-let-through l k e = says-passes [] [] (shellChecks l k) (lit< tt, (lit< tt, (lit< tt, tt))) (sym e)
+pub let-through : (l k total : ℕ) → 0 ∷ [] ≡ firstOf (shellChecks l k total) (0 ∷ []) → Passes (shellChecks l k total)
+let-through l k total e = says-passes [] [] (shellChecks l k total) (lit< tt, (lit< tt, (lit< tt, tt))) (sym e)
 
-pub says-usable : (l k : ℕ) → 0 ∷ [] ≡ firstOf (shellChecks l k) (0 ∷ []) → IsUsable l k
-says-usable l k e = passes-usable l k (let-through l k e)
+pub says-usable : (l k total : ℕ) → 0 ∷ [] ≡ firstOf (shellChecks l k total) (0 ∷ []) → IsUsable l k total
+says-usable l k total e = passes-usable l k total (let-through l k total e)
 
-pub usable-answers : (l k : ℕ) (answer : List ℕ) → 0 ∷ [] ≡ firstOf (shellChecks l k) (0 ∷ []) → answer ≡ firstOf (shellChecks l k) answer
-usable-answers l k answer e = sym (passes-says answer (shellChecks l k) (let-through l k e))
+pub usable-answers : (l k total : ℕ) (answer : List ℕ) → 0 ∷ [] ≡ firstOf (shellChecks l k total) (0 ∷ []) → answer ≡ firstOf (shellChecks l k total) answer
+usable-answers l k total answer e = sym (passes-says answer (shellChecks l k total) (let-through l k total e))

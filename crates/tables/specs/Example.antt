@@ -1,14 +1,15 @@
 -- Two rows, read by the definitions: the row of document 01's whole case, and one in which every byte up to the last two differs from its
--- neighbours; tables of those rows; and the faults of each. proofs/Example.antt computes every line. Assumes nothing.
+-- neighbours; the faults of each; and tables of those rows. proofs/Example.antt computes every line. Assumes nothing.
 use Prim.Native.Nat.{ℕ, zero, suc}
 use mathlib.Core.Path.{_≡_}
 use mathlib.Core.List.{List, [], _∷_, _++_}
 use mathlib.Core.Bool.{true, false}
 use lib.ListN.{take, drop}
 use Rattle.answers.specs.Checks.{firstOf}
+use Rattle.counts.specs.Counts.{N}
 use Rattle.tables.specs.Usable.{tooMany, shellChecks}
 use Rattle.tables.specs.Row.{lengthOf, radiiOf, radiusAt, stepOf, placesOf, badRow}
-use Rattle.tables.specs.Table.{tableRoom, checkSays, noSuchPlace, rowOf}
+use Rattle.tables.specs.Table.{rowAt, tableRoom, checkSays, noSuchPlace, rowOf, lengthFor}
 
 abbrev pub wholeCase : List ℕ
 wholeCase = 3 ∷ 2 ∷ 0 ∷ 2 ∷ 0 ∷ 0 ∷ 0 ∷ 0 ∷ 0 ∷ 0 ∷ 1 ∷ 0 ∷ 0 ∷ 2 ∷ 0 ∷ 0 ∷ []
@@ -30,51 +31,55 @@ again zero row = []
 again (suc n) row = row ++ again n row
 
 pub record Example : Type 0 where
-  pub length-0 : lengthOf twoRows 0 ≡ 3
-  pub length-1 : lengthOf twoRows 1 ≡ 5
-  pub radii-0 : radiiOf twoRows 0 ≡ 2
-  pub radii-1 : radiiOf twoRows 1 ≡ 8
-  pub radius-0-1 : radiusAt twoRows 0 1 ≡ 2
-  pub radius-1-0 : radiusAt twoRows 1 0 ≡ 0
-  pub radius-1-2 : radiusAt twoRows 1 2 ≡ 3
-  pub radius-1-7 : radiusAt twoRows 1 7 ≡ 32
-  pub step-0 : stepOf twoRows 0 ≡ 256
-  pub step-1 : stepOf twoRows 1 ≡ 775
-  pub places-1 : placesOf twoRows 1 ≡ 260
+  pub length-0 : lengthOf wholeCase ≡ 3
+  pub length-1 : lengthOf fullRow ≡ 5
+  pub radii-0 : radiiOf wholeCase ≡ 2
+  pub radii-1 : radiiOf fullRow ≡ 8
+  pub radius-0-1 : radiusAt wholeCase 1 ≡ 2
+  pub radius-1-0 : radiusAt fullRow 0 ≡ 0
+  pub radius-1-2 : radiusAt fullRow 2 ≡ 3
+  pub radius-1-7 : radiusAt fullRow 7 ≡ 32
+  pub step-0 : stepOf wholeCase ≡ 256
+  pub step-1 : stepOf fullRow ≡ 775
+  pub places-1 : placesOf fullRow ≡ 260
+  -- the rows of the table of both
+  pub first-row : rowAt twoRows 0 ≡ wholeCase
+  pub second-row : rowAt twoRows 1 ≡ fullRow
+  pub no-row : rowAt twoRows 2 ≡ []
   -- neither is bad; without a step, or without places, the first is
-  pub good-0 : badRow twoRows 0 ≡ false
-  pub good-1 : badRow twoRows 1 ≡ false
-  pub no-step : badRow (take 10 wholeCase ++ 0 ∷ 0 ∷ 0 ∷ 2 ∷ 0 ∷ 0 ∷ []) 0 ≡ true
-  pub no-places : badRow (take 12 wholeCase ++ 0 ∷ 0 ∷ 0 ∷ 0 ∷ []) 0 ≡ true
+  pub good-0 : badRow wholeCase ≡ false
+  pub good-1 : badRow fullRow ≡ false
+  pub no-step : badRow (take 10 wholeCase ++ 0 ∷ 0 ∷ 0 ∷ 2 ∷ 0 ∷ 0 ∷ []) ≡ true
+  pub no-places : badRow (take 12 wholeCase ++ 0 ∷ 0 ∷ 0 ∷ 0 ∷ []) ≡ true
   -- the smallest step, number of places, length and number of radii are good
-  pub step-of-1 : badRow (take 10 wholeCase ++ 0 ∷ 1 ∷ drop 12 wholeCase) 0 ≡ false
-  pub one-place : badRow (ofPlaces 0 1) 0 ≡ false
-  pub length-of-1 : badRow (1 ∷ drop 1 wholeCase) 0 ≡ false
-  pub one-radius : badRow (3 ∷ 1 ∷ 0 ∷ 0 ∷ drop 4 wholeCase) 0 ≡ false
+  pub step-of-1 : badRow (take 10 wholeCase ++ 0 ∷ 1 ∷ drop 12 wholeCase) ≡ false
+  pub one-place : badRow (ofPlaces 0 1) ≡ false
+  pub length-of-1 : badRow (1 ∷ drop 1 wholeCase) ≡ false
+  pub one-radius : badRow (3 ∷ 1 ∷ 0 ∷ 0 ∷ drop 4 wholeCase) ≡ false
   -- each other fault by itself: length 0 and 17; no radii, and nine; a first radius that is 1; two that are equal, the last two of eight among them;
   -- one above 32; one past the largest of length 16, which is good; one beyond the number of radii; a byte 14 or 15 that is not 0
-  pub no-length : badRow (0 ∷ drop 1 wholeCase) 0 ≡ true
-  pub length-17 : badRow (17 ∷ drop 1 wholeCase) 0 ≡ true
-  pub no-radii : badRow (3 ∷ 0 ∷ 0 ∷ 0 ∷ drop 4 wholeCase) 0 ≡ true
-  pub nine-radii : badRow (3 ∷ 9 ∷ drop 2 fullRow) 0 ≡ true
-  pub first-radius-1 : badRow (3 ∷ 2 ∷ 1 ∷ drop 3 wholeCase) 0 ≡ true
-  pub equal-radii : badRow (3 ∷ 3 ∷ 0 ∷ 2 ∷ 2 ∷ drop 5 wholeCase) 0 ≡ true
-  pub last-equal : badRow (take 9 fullRow ++ 20 ∷ drop 10 fullRow) 0 ≡ true
-  pub radius-33 : badRow (1 ∷ 2 ∷ 0 ∷ 33 ∷ drop 4 wholeCase) 0 ≡ true
-  pub past-largest : badRow (16 ∷ 2 ∷ 0 ∷ 13 ∷ drop 4 wholeCase) 0 ≡ true
-  pub at-largest : badRow (16 ∷ 2 ∷ 0 ∷ 12 ∷ drop 4 wholeCase) 0 ≡ false
-  pub unused-radius : badRow (take 4 wholeCase ++ 2 ∷ drop 5 wholeCase) 0 ≡ true
-  pub byte-14 : badRow (take 14 wholeCase ++ 1 ∷ 0 ∷ []) 0 ≡ true
-  pub byte-15 : badRow (take 15 wholeCase ++ 1 ∷ []) 0 ≡ true
+  pub no-length : badRow (0 ∷ drop 1 wholeCase) ≡ true
+  pub length-17 : badRow (17 ∷ drop 1 wholeCase) ≡ true
+  pub no-radii : badRow (3 ∷ 0 ∷ 0 ∷ 0 ∷ drop 4 wholeCase) ≡ true
+  pub nine-radii : badRow (3 ∷ 9 ∷ drop 2 fullRow) ≡ true
+  pub first-radius-1 : badRow (3 ∷ 2 ∷ 1 ∷ drop 3 wholeCase) ≡ true
+  pub equal-radii : badRow (3 ∷ 3 ∷ 0 ∷ 2 ∷ 2 ∷ drop 5 wholeCase) ≡ true
+  pub last-equal : badRow (take 9 fullRow ++ 20 ∷ drop 10 fullRow) ≡ true
+  pub radius-33 : badRow (1 ∷ 2 ∷ 0 ∷ 33 ∷ drop 4 wholeCase) ≡ true
+  pub past-largest : badRow (16 ∷ 2 ∷ 0 ∷ 13 ∷ drop 4 wholeCase) ≡ true
+  pub at-largest : badRow (16 ∷ 2 ∷ 0 ∷ 12 ∷ drop 4 wholeCase) ≡ false
+  pub unused-radius : badRow (take 4 wholeCase ++ 2 ∷ drop 5 wholeCase) ≡ true
+  pub byte-14 : badRow (take 14 wholeCase ++ 1 ∷ 0 ∷ []) ≡ true
+  pub byte-15 : badRow (take 15 wholeCase ++ 1 ∷ []) ≡ true
   -- a shell of 2^32 points is within the limit, and one of a point more is not; no shell has either number of points
   pub most-points : tooMany 4294967296 ≡ false
   pub too-many : tooMany 4294967297 ≡ true
   -- a shell's length, radius and number of points; of a length and a radius that are both at fault, the length is told
-  pub shell-1 : firstOf (shellChecks 17 1) (0 ∷ []) ≡ 1 ∷ []
-  pub shell-2 : firstOf (shellChecks 16 33) (0 ∷ []) ≡ 2 ∷ []
-  pub shell-3 : firstOf (shellChecks 16 13) (0 ∷ []) ≡ 3 ∷ []
-  pub shell-0 : firstOf (shellChecks 16 12) (0 ∷ []) ≡ 0 ∷ []
-  pub length-first : firstOf (shellChecks 0 33) (0 ∷ []) ≡ 1 ∷ []
+  pub shell-1 : firstOf (shellChecks 17 1 (N 17 1)) (0 ∷ []) ≡ 1 ∷ []
+  pub shell-2 : firstOf (shellChecks 16 33 (N 16 33)) (0 ∷ []) ≡ 2 ∷ []
+  pub shell-3 : firstOf (shellChecks 16 13 (N 16 13)) (0 ∷ []) ≡ 3 ∷ []
+  pub shell-0 : firstOf (shellChecks 16 12 (N 16 12)) (0 ∷ []) ≡ 0 ∷ []
+  pub length-first : firstOf (shellChecks 0 33 (N 0 33)) (0 ∷ []) ≡ 1 ∷ []
   -- tables, and the first of their rows that is bad
   pub whole-case : checkSays wholeCase ≡ 0 ∷ 2 ∷ []
   pub two-rows : checkSays twoRows ≡ 0 ∷ 262 ∷ []
@@ -83,6 +88,9 @@ pub record Example : Type 0 where
   pub row-of-1 : rowOf twoRows 1 ≡ 0
   pub row-of-2 : rowOf twoRows 2 ≡ 1
   pub row-of-261 : rowOf twoRows 261 ≡ 1
+  -- and the length of their points
+  pub length-at-1 : lengthFor twoRows 1 ≡ 3
+  pub length-at-2 : lengthFor twoRows 2 ≡ 5
   -- the last place of all, and one more
   pub place-261 : noSuchPlace twoRows 261 ≡ false
   pub place-262 : noSuchPlace twoRows 262 ≡ true

@@ -1,13 +1,21 @@
 -- The pairing table as a whole (document 01, "Pairing table"): its rows and places, which tables are bad, what the call check says of one,
--- and the row of a place. t is the table's bytes, any list of them. Assumes nothing.
-use Prim.Native.Nat.{ℕ, zero, suc, _+_, _*_, _%_, _≤_, _<_}
+-- and the row of a place. t is the table's bytes, any list of them; r is the number of a row. Assumes nothing.
+use Prim.Native.Nat.{ℕ, zero, suc, _+_, _*_, _/_, _%_, _≤_, _<_}
 use mathlib.Core.Path.{_≡_}
 use mathlib.Core.List.{List, [], _∷_}
 use mathlib.Core.Bool.{Bool, not}
 use lib.Dec.{eqb, leb, ltb}
-use lib.ListN.{length}
+use lib.ListN.{length, take, drop}
 use Rattle.answers.specs.Checks.{Check, anyOf, pick, firstOf, eachFrom, Passes}
-use Rattle.tables.specs.Row.{rowsOf, placesOf, badRow}
+use Rattle.tables.specs.Row.{rowLength, lengthOf, placesOf, badRow}
+
+-- how many rows there are
+abbrev pub rowsOf : List ℕ → ℕ
+rowsOf t = length t / rowLength
+
+-- the bytes of row r: no header, one record a row
+unfoldable pub rowAt : List ℕ → ℕ → List ℕ
+rowAt t r = take rowLength (drop (rowLength * r) t)
 
 -- 1 to 32 rows, each whole
 abbrev pub wrongSize : ℕ → Bool
@@ -20,7 +28,7 @@ tableRoom = 513
 -- places are numbered from 0 through the rows in order: so many come before row r, the running total
 unfoldable pub placesBefore : List ℕ → ℕ → ℕ
 placesBefore t zero = 0
-placesBefore t (suc r) = placesBefore t r + placesOf t r
+placesBefore t (suc r) = placesBefore t r + placesOf (rowAt t r)
 
 -- the places of the whole table
 abbrev pub placesIn : List ℕ → ℕ
@@ -32,7 +40,7 @@ passesTotal t r = ltb 4096 (placesBefore t (suc r))
 
 -- 7: bad pairing table, with the first bad row; a table of wrong size names row 0, and its rows are not looked at
 abbrev pub rowCheck : List ℕ → ℕ → Check
-rowCheck t r = record { number = 7; values = r ∷ []; fails = anyOf (badRow t r ∷ passesTotal t r ∷ []) }
+rowCheck t r = record { number = 7; values = r ∷ []; fails = anyOf (badRow (rowAt t r) ∷ passesTotal t r ∷ []) }
 
 abbrev pub tableChecks : List ℕ → List Check
 tableChecks t = record { number = 7; values = 0 ∷ []; fails = wrongSize (length t) } ∷ eachFrom (rowCheck t) 0 (rowsOf t)
@@ -60,6 +68,9 @@ pub record InRow (t : List ℕ) (p r : ℕ) : Type 0 where
 abbrev pub noSuchPlace : List ℕ → ℕ → Bool
 noSuchPlace t p = leb (placesIn t) p
 
+abbrev pub placeCheck : List ℕ → ℕ → Check
+placeCheck t p = record { number = 8; values = []; fails = noSuchPlace t p }
+
 -- how many of the first n rows end before the place
 unfoldable pub rowsBefore : List ℕ → ℕ → ℕ → ℕ
 rowsBefore t p zero = 0
@@ -70,12 +81,13 @@ rowsBefore t p (suc n) = pick (leb (placesBefore t (suc n)) p) (suc (rowsBefore 
 abbrev pub rowOf : List ℕ → ℕ → ℕ
 rowOf t p = rowsBefore t p (rowsOf t)
 
--- what a survey is to say of a good table: its places, and the row of the place that was asked for
-abbrev pub surveySays : List ℕ → ℕ → List ℕ
-surveySays t p = firstOf (tableChecks t) (0 ∷ placesIn t ∷ rowOf t p ∷ [])
+-- its bytes, and the length of the place's points
+abbrev pub rowFor : List ℕ → ℕ → List ℕ
+rowFor t p = rowAt t (rowOf t p)
 
--- what a call may take from such a survey
-pub record Surveys (t : List ℕ) (p places row : ℕ) : Type 0 where
-  pub good : Good t
-  pub is-places : places ≡ placesIn t
-  pub is-row : row ≡ rowOf t p
+abbrev pub lengthFor : List ℕ → ℕ → ℕ
+lengthFor t p = lengthOf (rowFor t p)
+
+-- what is told of a table and a place once they have passed some checks: the number of places, and the row of the place
+abbrev pub surveySays : List Check → List ℕ → ℕ → List ℕ
+surveySays checks t p = firstOf checks (0 ∷ placesIn t ∷ rowOf t p ∷ [])

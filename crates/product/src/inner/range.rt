@@ -1,7 +1,7 @@
 // The range of an index: the number s of nonzero coordinates of its point, and where the range starts.
 use counts::Length;
 use counts::Radius;
-use ranges::inner::most;
+use ranges::inner::most_nonzero;
 use ranges::inner::range_size;
 ghost use mathlib.Core.Path.{_≡_};
 ghost use lib.Dec.{ltb};
@@ -20,7 +20,7 @@ pub fn locate(length: Length, radius: Radius, n: u64) -> Range
     requires { ⌜ IsUsable (length .0) (radius .0) ⌝ }
     ensures { λ r. ⌜ (r .s ≡ rangeOf (length .0) (radius .0) n) × (r .start ≡ O (r .s) (length .0) (radius .0)) ⌝ }
 {
-    let mut s = most(length, radius);
+    let mut s = most_nonzero(length, radius);
     let mut start: u64 = 0;
     let found = loop {
         if s == 0 {

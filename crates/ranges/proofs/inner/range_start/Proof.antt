@@ -5,34 +5,34 @@ use Prim.Native.Nat.{ℕ, _+_, _≤_, min}
 use mathlib.Core.Path.{_≡_, sym, ap, ap₂, _∙_}
 use native.Mathlib.Omega.{arith}
 use native.Mathlib.Decide.{decLe}
-use Rattle.counts.specs.Counts.{S, O, most}
+use Rattle.counts.specs.Counts.{S, O, mostNonzero}
 use Rattle.counts.proofs.Ranges.{range-down, range-last, end-bound}
 use Rattle.ranges.proofs.inner.range_start.Statement.{statement}
 use Rattle.ranges.proofs.inner.range_start.Tie as tie
 
 -- where the loop stops the start is that of s: at s itself, or at m where s is past it
-stopped : (l k s i : ℕ) → i ≤ s → i ≤ most l k → min s (most l k) ≤ i → O i l k ≡ O s l k
-stopped l k s i h p q = go (decLe s (most l k))
+stopped : (l k s i : ℕ) → i ≤ s → i ≤ mostNonzero l k → min s (mostNonzero l k) ≤ i → O i l k ≡ O s l k
+stopped l k s i h p q = go (decLe s (mostNonzero l k))
   where
-    go : Dec (s ≤ most l k) → O i l k ≡ O s l k
+    go : Dec (s ≤ mostNonzero l k) → O i l k ≡ O s l k
     go (yes r) = let same : i ≡ s = omega arith in ap (λ (x : ℕ). O x l k) same
     go (no r) = range-last S l k i (omega arith) ∙ sym (range-last S l k s (omega arith))
 
 abbrev Inv-loop : tie.InvT-loop
 Inv-loop s length radius i₀ start₀ i start =
-    (i ≤ most (length .0) (radius .0)) × (min s (most (length .0) (radius .0)) ≤ i) × (start ≡ O i (length .0) (radius .0))
+    (i ≤ mostNonzero (length .0) (radius .0)) × (min s (mostNonzero (length .0) (radius .0)) ≤ i) × (start ≡ O i (length .0) (radius .0))
 
 abbrev μ-loop : tie.MeasureT-loop
 μ-loop s length radius i₀ start₀ i start = i
 
-most-requires : tie.Need-most-requires Inv-loop μ-loop
-most-requires c κs = search needs
+most-nonzero-requires : tie.Need-most-nonzero-requires Inv-loop μ-loop
+most-nonzero-requires c κs = search needs
 
 loop-holds : tie.Need-loop-holds Inv-loop μ-loop
 loop-holds c =
     let a = c .before .args in
-    let m = c .most .ensures in
-    (omega arith, omega arith, sym (range-last S (a .length .0) (a .radius .0) (c .most .result) (omega arith)))
+    let m = c .most-nonzero .ensures in
+    (omega arith, omega arith, sym (range-last S (a .length .0) (a .radius .0) (c .most-nonzero .result) (omega arith)))
 
 range-size-requires : tie.Need-range-size-requires Inv-loop μ-loop
 range-size-requires c κs = omega arith
@@ -70,7 +70,7 @@ range-start-spec =
     (tie.spec
     Inv-loop
     μ-loop
-    most-requires
+    most-nonzero-requires
     loop-holds
     range-size-requires
     add-start

@@ -4,7 +4,7 @@ use borrow.Author.Needs.{needs}
 use Prim.Native.Nat.{_+_, _-_, _≤_}
 use mathlib.Core.Path.{_≡_, sym, ap, ap₂, _∙_}
 use native.Mathlib.Omega.{arith}
-use Rattle.counts.specs.Counts.{S, O, most}
+use Rattle.counts.specs.Counts.{S, O, mostNonzero}
 use Rattle.counts.proofs.Ranges.{range-down, range-last, end-bound}
 use Rattle.enumeration.specs.Reading.{rangeOf, rangeFrom}
 use Rattle.enumeration.proofs.RangeOf.{range-first, range-here, range-on, range-end}
@@ -13,21 +13,21 @@ use Rattle.product.proofs.inner.range.locate.Tie as tie
 
 abbrev Inv-loop : tie.InvT-loop
 Inv-loop length radius n s₀ start₀ s start =
-    (s ≤ most (length .0) (radius .0)) × (start ≡ O s (length .0) (radius .0)) × (start ≤ n)
+    (s ≤ mostNonzero (length .0) (radius .0)) × (start ≡ O s (length .0) (radius .0)) × (start ≤ n)
     × (rangeOf (length .0) (radius .0) n ≡ rangeFrom (length .0) (radius .0) n s)
 
 abbrev μ-loop : tie.MeasureT-loop
 μ-loop length radius n s₀ start₀ s start = s
 
-most-requires : tie.Need-most-requires Inv-loop μ-loop
-most-requires c κs = search needs
+most-nonzero-requires : tie.Need-most-nonzero-requires Inv-loop μ-loop
+most-nonzero-requires c κs = search needs
 
 loop-holds : tie.Need-loop-holds Inv-loop μ-loop
 loop-holds c =
     let a = c .before .args in
-    let m = c .most .ensures in (
+    let m = c .most-nonzero .ensures in (
       omega arith,
-      sym (range-last S (a .length .0) (a .radius .0) (c .most .result) (omega arith)),
+      sym (range-last S (a .length .0) (a .radius .0) (c .most-nonzero .result) (omega arith)),
       omega arith,
       range-first (a .length .0) (a .radius .0) (a .n) ∙ ap (rangeFrom (a .length .0) (a .radius .0) (a .n)) (sym m),
     )
@@ -79,7 +79,7 @@ locate-spec =
     (tie.spec
     Inv-loop
     μ-loop
-    most-requires
+    most-nonzero-requires
     loop-holds
     range-size-requires
     add-end

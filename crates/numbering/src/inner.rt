@@ -1,0 +1,69 @@
+// A shell's numbering, by value, and what can be asked of it. These are no calls: what they require, each caller is proved to meet.
+use counts::Length;
+use counts::Radius;
+use product::inner::range::Range;
+use product::inner::range::holds;
+use product::inner::range::locate;
+use product::inner::read;
+use product::inner::weigh::index_of;
+ghost use mathlib.Core.Path.{_≡_};
+ghost use lib.ListN.{length};
+ghost use Rattle.enumeration.specs.Point.{OnShell};
+ghost use Rattle.numbering.specs.Numbered.{totalIn, indexIn, pointIn, Usable, Names, IsFound, Seeks};
+
+// The shell whose points are numbered.
+pub struct Numbering {
+    pub length: Length,
+    pub radius: Radius,
+}
+
+// Where an index stands among the others, as a search found it.
+pub struct Found {
+    pub range: Range,
+}
+
+// An index that was sought: it names a point and stands here, or it is past the end, and there are so many.
+pub enum Sought {
+    At(Found),
+    Past { total: u64 },
+}
+
+// How many indices there are.
+pub fn total(numbering: Numbering) -> u64
+    requires { ⌜ Usable numbering ⌝ }
+    ensures { λ r. ⌜ r ≡ totalIn numbering ⌝ }
+{
+    ranges::inner::point_count(numbering.length, numbering.radius)
+}
+
+// The index of a point of the shell.
+pub fn index(numbering: Numbering, x: &[i32]) -> u64
+    requires { ⌜ Usable numbering × OnShell (numbering .length .0) (numbering .radius .0) (now x) ⌝ }
+    ensures { λ r. ⌜ r ≡ indexIn numbering (now (x .entry)) ⌝ }
+{
+    index_of(numbering.length, numbering.radius, x)
+}
+
+// Whether an index names a point, and where it stands.
+pub fn seek(numbering: Numbering, n: u64) -> Sought
+    requires { ⌜ Usable numbering ⌝ }
+    ensures { λ r. ⌜ Seeks numbering n r ⌝ }
+{
+    let length = numbering.length;
+    let radius = numbering.radius;
+    let range = locate(length, radius, n);
+    if holds(range, length, radius, n) {
+        return Sought::At(Found { range });
+    }
+    Sought::Past {
+        total: ranges::inner::total(length, radius, range.start),
+    }
+}
+
+// The point of an index that names one, by where it stands.
+pub fn write_point(numbering: Numbering, n: u64, found: Found, out: &mut [i32])
+    requires { ⌜ Names numbering n × IsFound numbering n found × (length (now out) ≡ numbering .length .0) ⌝ }
+    ensures { λ _. ⌜ now (out .exit) ≡ pointIn numbering n ⌝ }
+{
+    read::write_point(numbering.length, numbering.radius, n, found.range, out);
+}
