@@ -1,3 +1,2 @@
 pub mod Surveys
 pub mod OneToOne
-pub mod Refused

@@ -1,18 +1,52 @@
--- A survey that answers: the table is good, and these are its places and the row of the place. Assumes nothing.
-use Prim.Native.Nat.{ℕ}
-use mathlib.Core.Path.{_≡_, sym, ap, _∙_}
-use mathlib.Core.List.{List, [], _∷_}
-use Rattle.answers.proofs.InOrder.{says-passes, passes-says}
-use Rattle.tables.proofs.Seven.{table-numbered}
-use Rattle.tables.specs.Table.{placesIn, tableChecks, rowOf, surveySays, Surveys}
+-- A survey by any checks: what its answer tells, what a call says and leaves whose survey is refused, and one check more. So every call that begins with
+-- a survey is argued in the same way, whatever the checks are. Assumes nothing.
+use Prim.Native.Nat.{ℕ, _<_}
+use mathlib.Core.Path.{_≡_, refl, sym, ap, _∙_}
+use mathlib.Core.List.{List, [], _∷_, _++_}
+use mathlib.Core.Bool.{true, false}
+use Rattle.answers.specs.Refusals.{meaning}
+use Rattle.answers.specs.Checks.{Check, anyOf, firstOf, leaves, failsOf, Passes}
+use Rattle.answers.specs.declared.Refusal.{Refusal}
+use Rattle.answers.proofs.InOrder.{Numbered, says-passes, passes-says, passed-says, refused-says, refused-leaves, refusal-fails}
+use Rattle.tables.specs.Table.{placesIn, rowOf, surveySays}
 use Rattle.pairing.specs.Meanings.{surveyMeaning}
 use Rattle.pairing.specs.declared.inner.survey.Surveyed.{Surveyed}
 use Rattle.pairing.specs.declared.inner.survey.Surveyed.the-variants as surveyed
 
-pub survey-good : (t : List ℕ) (p : ℕ) {answer : Surveyed} {places row : ℕ} → answer ≡ surveyed.Good places row → surveyMeaning answer ≡ surveySays t p
-    → Surveys t p places row
-survey-good t p {answer} {places} {row} told says =
-    let e = ap surveyMeaning (sym told) ∙ says in
-    let good = says-passes (placesIn t ∷ rowOf t p ∷ []) (places ∷ row ∷ []) (tableChecks t) (table-numbered t) (sym e) in
-    let said = e ∙ passes-says (0 ∷ placesIn t ∷ rowOf t p ∷ []) (tableChecks t) good in
-    record { good = good; is-places = cc; is-row = cc }
+-- what was surveyed: the checks pass, and these are the places of the table and the row of the place
+pub record Surveys (checks : List Check) (t : List ℕ) (p places row : ℕ) : Type 0 where
+  pub passes : Passes checks
+  pub is-places : places ≡ placesIn t
+  pub is-row : row ≡ rowOf t p
+
+module _ (checks : List Check) (t : List ℕ) (p : ℕ) {survey : Surveyed} (says : surveyMeaning survey ≡ surveySays checks t p) where
+  pub survey-good : {places row : ℕ} → Numbered checks → survey ≡ surveyed.Good places row → Surveys checks t p places row
+  survey-good {places} {row} numbered told =
+      let e = ap surveyMeaning (sym told) ∙ says in
+      let good = says-passes (placesIn t ∷ rowOf t p ∷ []) (places ∷ row ∷ []) checks numbered (sym e) in
+      let said = e ∙ passes-says (0 ∷ placesIn t ∷ rowOf t p ∷ []) checks good in
+      record { passes = good; is-places = cc; is-row = cc }
+
+  -- a refusal stands whatever else would have been checked, and leaves a lent buffer as it was
+  module _ {r : Refusal} (told : survey ≡ surveyed.Bad r) where
+    said : meaning r ≡ surveySays checks t p
+    said = ap surveyMeaning (sym told) ∙ says
+
+    pub survey-fails : anyOf (failsOf checks) ≡ true
+    survey-fails = refusal-fails (placesIn t ∷ rowOf t p ∷ []) checks r said
+
+    pub survey-says : (rest : List Check) (answer : List ℕ) → meaning r ≡ firstOf (checks ++ rest) answer
+    survey-says rest answer = refused-says checks rest (placesIn t ∷ rowOf t p ∷ []) answer r said
+
+    pub survey-leaves : {A : Type 0} (rest : List Check) (made held : A) → held ≡ leaves (checks ++ rest) made held
+    survey-leaves rest made held = refused-leaves checks rest made held (placesIn t ∷ rowOf t p ∷ []) r said
+
+-- one check more
+module _ {checks : List Check} {t : List ℕ} {p places row : ℕ} (found : Surveys checks t p places row) (c : Check) where
+  pub one-fails : c .fails ≡ true → c .number ∷ c .values ≡ surveySays (checks ++ (c ∷ [])) t p
+  one-fails fails = rw fails refl ∙ passed-says checks (c ∷ []) (0 ∷ placesIn t ∷ rowOf t p ∷ []) (found .passes)
+
+  pub one-passes : c .fails ≡ false → 0 ∷ places ∷ row ∷ [] ≡ surveySays (checks ++ (c ∷ [])) t p
+  one-passes passes =
+      let told : _≡_ {A = List ℕ} (0 ∷ places ∷ row ∷ []) (firstOf (c ∷ []) (0 ∷ placesIn t ∷ rowOf t p ∷ [])) = rw (passes, found .is-places, found .is-row) refl in
+      told ∙ passed-says checks (c ∷ []) (0 ∷ placesIn t ∷ rowOf t p ∷ []) (found .passes)

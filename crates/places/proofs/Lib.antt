@@ -1,5 +1,4 @@
 pub mod Parts
 pub mod Placed
 pub mod Looking
-pub mod Walking
 pub mod Zeros

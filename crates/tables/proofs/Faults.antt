@@ -12,10 +12,10 @@ use Rattle.counts.specs.Counts.{N}
 use Rattle.tables.specs.Largest.{largestRadius}
 use Rattle.tables.specs.Usable.{mostPoints, unusableShell}
 use Rattle.tables.proofs.Largest.{largest-to, usable-up-to, unusable-past}
-use Rattle.tables.specs.Row.{radiiOf, radiusAt, unusableRadius, outOfOrder, badRadius, badRadii}
+use Rattle.tables.specs.Row.{lengthOf, enumerationOf, radiiOf, radiusAt, unusableRadius, outOfOrder, badRadius, badRadii}
 
 -- a shell of N points is unusable exactly above the largest radius of its length
-pub above-largest : (l k : ℕ) → 1 ≤ l → l ≤ 16 → ltb (largestRadius l) k ≡ unusableShell l k (N l k)
+above-largest : (l k : ℕ) → 1 ≤ l → l ≤ 16 → ltb (largestRadius l) k ≡ unusableShell l k (N l k)
 above-largest l k p q = rw (le-ltb l 1 p, le-ltb 16 l q) (go (decLt 32 k) (decLe k (largestRadius l)))
   where
     go : Dec (32 < k) → Dec (k ≤ largestRadius l) → ltb (largestRadius l) k ≡ (ltb 32 k || (ltb mostPoints (N l k) || false))
@@ -23,6 +23,11 @@ above-largest l k p q = rw (le-ltb l 1 p, le-ltb 16 l q) (go (decLt 32 k) (decLe
     go (no h) (yes g) = rw (le-ltb 32 k (omega arith), le-ltb (largestRadius l) k g, le-ltb mostPoints (N l k) (usable-up-to l k p q g))
     go (no h) (no g) =
         rw (le-ltb 32 k (omega arith), lt-ltb (largestRadius l) k (omega arith), lt-ltb mostPoints (N l k) (unusable-past l k p q (omega arith) (omega arith)))
+
+-- and so is a radius of a row
+pub radius-above-largest : (row : List ℕ) (k : ℕ) → 1 ≤ lengthOf row → lengthOf row ≤ 16 → ltb (largestRadius (lengthOf row)) k ≡ unusableRadius row k
+unfolding enumerationOf
+radius-above-largest row k p q = above-largest (lengthOf row) k p q
 
 module _ (row : List ℕ) (n : ℕ) where
   pub unused-says : radiiOf row ≤ n → not (eqb (radiusAt row n) 0) ≡ badRadius row n

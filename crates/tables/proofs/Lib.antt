@@ -7,3 +7,5 @@ pub mod Rows
 pub mod Places
 pub mod Good
 pub mod Seven
+pub mod Walking
+pub mod PlaceChecks

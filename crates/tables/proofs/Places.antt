@@ -9,7 +9,7 @@ use Rattle.tables.specs.Row.{placesOf}
 use Rattle.tables.specs.Table.{rowsOf, rowAt, placesBefore, placesIn, InRow, rowsBefore, rowOf}
 use Rattle.tables.proofs.Rows.{total-next, ends-before, ends-after}
 
-places-grow : (t : List ℕ) (i j : ℕ) → i ≤ j → placesBefore t i ≤ placesBefore t j
+pub places-grow : (t : List ℕ) (i j : ℕ) → i ≤ j → placesBefore t i ≤ placesBefore t j
 places-grow t i zero h = let same : i ≡ 0 = omega arith in rw same (omega arith)
 places-grow t i (suc j) h = go (decLe i j) (places-grow t i j)
   where

@@ -1,16 +1,22 @@
--- The rows of a table as a survey goes through them: the running total, and whether a row is bad. Assumes nothing.
-use Prim.Native.Nat.{ℕ, zero, suc, _+_, _-_, _≤_, _<_}
+-- The rows of a table as a survey goes through them: their bytes, the running total, and whether a row is bad. Assumes nothing.
+use Prim.Native.Nat.{ℕ, zero, suc, _+_, _-_, _*_, _≤_, _<_}
 use mathlib.Core.Path.{_≡_, refl}
 use mathlib.Core.List.{List}
 use mathlib.Core.Bool.{true, false}
 use mathlib.Core.Logic.{_⊎_, ⊎-elim}
 use native.Mathlib.Omega.{arith}
 use native.Mathlib.Decide.{decLe}
-use lib.ListN.{length}
+use lib.ListN.{length, drop, length-drop}
+use lib.Seq.{length-take-le}
 use borrow.Author.Tests.{lt-ltb, le-ltb, le-leb, lt-leb}
 use Rattle.answers.specs.Checks.{firstOf, eachFrom}
-use Rattle.tables.specs.Row.{placesOf, badRow}
+use Rattle.tables.specs.Row.{rowLength, placesOf, badRow}
 use Rattle.tables.specs.Table.{rowsOf, rowAt, wrongSize, placesBefore, passesTotal, rowCheck, tableChecks, rowsBefore}
+
+-- a row has 16 bytes
+pub row-length : (t : List ℕ) (r : ℕ) → r < rowsOf t → length (rowAt t r) ≡ rowLength
+unfolding rowAt
+row-length t r h = length-take-le rowLength (drop (rowLength * r) t) (rw (length-drop (rowLength * r) t) (omega arith))
 
 -- a table of the right size is judged by its rows
 pub size-passes : (t : List ℕ) → wrongSize (length t) ≡ false → (answer : List ℕ)

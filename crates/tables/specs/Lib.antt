@@ -2,4 +2,5 @@ pub mod Usable
 pub mod Largest
 pub mod Row
 pub mod Table
+pub mod Way
 pub mod Example

@@ -5,7 +5,7 @@ use mathlib.Core.Path.{_≡_}
 use mathlib.Core.List.{List, [], _∷_}
 use mathlib.Core.Bool.{Bool, false, not, _||_}
 use lib.Dec.{eqb, leb, ltb}
-use lib.ListN.{getD}
+use lib.ListN.{length, getD}
 use Rattle.answers.specs.Checks.{pick, anyOf}
 use Rattle.octets.specs.Octets.{fromHigh}
 use Rattle.enumeration.specs.Enumeration.{Enumeration}
@@ -109,3 +109,8 @@ pub record GoodRow (row : List ℕ) : Type 0 where
   pub places-from : 1 ≤ placesOf row
   pub zero-14 : byteOf row 14 ≡ 0
   pub zero-15 : byteOf row 15 ≡ 0
+
+-- the bytes of a good row, as a function is lent them
+pub record IsRow (row : List ℕ) : Type 0 where
+  pub sixteen : length row ≡ rowLength
+  pub row-good : GoodRow row

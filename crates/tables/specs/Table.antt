@@ -2,7 +2,7 @@
 -- and the row of a place. t is the table's bytes, any list of them; r is the number of a row. Assumes nothing.
 use Prim.Native.Nat.{ℕ, zero, suc, _+_, _*_, _/_, _%_, _≤_, _<_}
 use mathlib.Core.Path.{_≡_}
-use mathlib.Core.List.{List, [], _∷_}
+use mathlib.Core.List.{List, [], _∷_, _++_}
 use mathlib.Core.Bool.{Bool, not}
 use lib.Dec.{eqb, leb, ltb}
 use lib.ListN.{length, take, drop}
@@ -70,6 +70,10 @@ noSuchPlace t p = leb (placesIn t) p
 
 abbrev pub placeCheck : List ℕ → ℕ → Check
 placeCheck t p = record { number = 8; values = []; fails = noSuchPlace t p }
+
+-- what is checked of a table and a place in it: 7, 8
+abbrev pub placeChecks : List ℕ → ℕ → List Check
+placeChecks t p = tableChecks t ++ (placeCheck t p ∷ [])
 
 -- how many of the first n rows end before the place
 unfoldable pub rowsBefore : List ℕ → ℕ → ℕ → ℕ

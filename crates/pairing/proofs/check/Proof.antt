@@ -4,6 +4,7 @@ use Prim.Native.Nat.{ℕ}
 use mathlib.Core.Path.{sym, ap, _∙_}
 use mathlib.Core.List.{List, [], _∷_}
 use Rattle.answers.proofs.InOrder.{passes-says, refusal-stands}
+use Rattle.tables.proofs.Seven.{table-numbered}
 use Rattle.tables.specs.Table.{placesIn, rowOf, tableChecks}
 use Rattle.pairing.specs.Meanings.{surveyMeaning}
 use Rattle.pairing.proofs.Surveys.{survey-good}
@@ -25,8 +26,8 @@ returns c =
     let t = c .before .before .before .before .before .args .table .now in
     let told = c .before .places .given in
     let answer : List ℕ = 0 ∷ placesIn t ∷ [] in
-    let found = survey-good t 0 (told .1) (c .before .before .before .survey .ensures) in
-    ap (λ (n : ℕ). 0 ∷ n ∷ []) (found .is-places) ∙ sym (passes-says answer (tableChecks t) (found .good))
+    let found = survey-good (tableChecks t) t 0 (c .before .before .before .survey .ensures) (table-numbered t) (told .1) in
+    ap (λ (n : ℕ). 0 ∷ n ∷ []) (found .is-places) ∙ sym (passes-says answer (tableChecks t) (found .passes))
 
 returns-2 : tie.Need-returns-2
 returns-2 c =

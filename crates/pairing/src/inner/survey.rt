@@ -1,12 +1,13 @@
-// One pass over the rows of a table: it judges every row, adds up the places and finds the row of a place on the way, so that a call
-// which is given a table and a place goes over the rows once.
+// What the calls ask of a table before they work: one pass over its rows, which judges every row, adds up the places and finds the row of a place on
+// the way, so that a call which is given a table and a place goes over the rows once.
 use answers::Refusal;
 use rows::inner::fault::bad_row;
-use rows::inner::row;
+use rows::inner::row::places;
+use rows::inner::row::row_at;
 ghost use mathlib.Core.Path.{_≡_};
-ghost use Rattle.tables.specs.Table.{wrongSize, surveySays};
-ghost use Rattle.pairing.specs.Meanings.{surveyMeaning};
 ghost use lib.ListN.{length};
+ghost use Rattle.tables.specs.Table.{wrongSize, tableChecks, placeChecks, surveySays};
+ghost use Rattle.pairing.specs.Meanings.{surveyMeaning};
 
 pub enum Surveyed {
     // the number of places, and the row of the place that was asked for, or the number of rows where there is no such place
@@ -28,29 +29,45 @@ fn wrong_size(table: &[u8]) -> bool
     n % 16 != 0
 }
 
-// `at` goes through the rows; `places` and `row` are those of the rows before it.
+// The table: `at` goes through the rows; `sum` and `row` are the places and the row of those before it.
 pub fn survey(table: &[u8], place: usize) -> Surveyed
-    ensures { λ r. ⌜ surveyMeaning r ≡ surveySays (now (table .entry)) place ⌝ }
+    ensures { λ r. ⌜ surveyMeaning r ≡ surveySays (tableChecks (now (table .entry))) (now (table .entry)) place ⌝ }
 {
     if wrong_size(table) {
         return Surveyed::Bad(Refusal::BadTable { row: 0 });
     }
     let rows = table.len() / 16;
     let mut at = 0;
-    let mut places = 0;
+    let mut sum = 0;
     let mut row = 0;
     while at < rows {
-        if bad_row(table, at) {
+        let bytes = row_at(table, at);
+        if bad_row(bytes) {
             return Surveyed::Bad(Refusal::BadTable { row: at });
         }
-        places += row::places(table, at);
-        if 4096 < places {
+        sum += places(bytes);
+        if 4096 < sum {
             return Surveyed::Bad(Refusal::BadTable { row: at });
         }
-        if places <= place {
+        if sum <= place {
             row += 1;
         }
         at += 1;
     }
-    Surveyed::Good { places, row }
+    Surveyed::Good { places: sum, row }
+}
+
+// The table, and the place.
+pub fn survey_place(table: &[u8], place: usize) -> Surveyed
+    ensures { λ r. ⌜ surveyMeaning r ≡ surveySays (placeChecks (now (table .entry)) place) (now (table .entry)) place ⌝ }
+{
+    match survey(table, place) {
+        Surveyed::Good { places, row } => {
+            if places <= place {
+                return Surveyed::Bad(Refusal::NoSuchPlace);
+            }
+            Surveyed::Good { places, row }
+        }
+        Surveyed::Bad(refusal) => Surveyed::Bad(refusal),
+    }
 }

@@ -8,41 +8,42 @@ use crate::inner::row::step;
 use ranges::inner::largest_radius;
 ghost use mathlib.Core.Path.{_≡_};
 ghost use Prim.Native.Nat.{_≤_, _<_};
+ghost use lib.ListN as listed;
 ghost use Rattle.answers.specs.Checks.{anyOf};
-ghost use Rattle.tables.specs.Row.{lengthOf, outOfOrder, badRadius, badRadii, tailFaults, badRow, rowsOf};
+ghost use Rattle.tables.specs.Row.{rowLength, lengthOf, outOfOrder, badRadius, badRadii, tailFaults, badRow};
 
 // A radius other than 0 in front, or not larger than the one before.
-fn out_of_order(table: &[u8], row: usize, number: usize) -> bool
-    requires { ⌜ (row < rowsOf (now table)) × (number < 8) ⌝ }
-    ensures { λ b. ⌜ b ≡ outOfOrder (now (table .entry)) row number ⌝ }
+fn out_of_order(row: &[u8], number: usize) -> bool
+    requires { ⌜ (listed.length (now row) ≡ rowLength) × (number < 8) ⌝ }
+    ensures { λ b. ⌜ b ≡ outOfOrder (now (row .entry)) number ⌝ }
 {
     if number == 0 {
-        return radius(table, row, 0).0 != 0;
+        return radius(row, 0).0 != 0;
     }
-    radius(table, row, number).0 <= radius(table, row, number - 1).0
+    radius(row, number).0 <= radius(row, number - 1).0
 }
 
 // A radius out of order or unusable, or an unused position that is not 0.
-fn bad_radius(table: &[u8], row: usize, number: usize) -> bool
-    requires { ⌜ (row < rowsOf (now table)) × (number < 8) × (1 ≤ lengthOf (now table) row) × (lengthOf (now table) row ≤ 16) ⌝ }
-    ensures { λ b. ⌜ b ≡ badRadius (now (table .entry)) row number ⌝ }
+fn bad_radius(row: &[u8], number: usize) -> bool
+    requires { ⌜ (listed.length (now row) ≡ rowLength) × (number < 8) × (1 ≤ lengthOf (now row)) × (lengthOf (now row) ≤ 16) ⌝ }
+    ensures { λ b. ⌜ b ≡ badRadius (now (row .entry)) number ⌝ }
 {
-    if radii(table, row) <= number {
-        return radius(table, row, number).0 != 0;
+    if radii(row) <= number {
+        return radius(row, number).0 != 0;
     }
-    if out_of_order(table, row, number) {
+    if out_of_order(row, number) {
         return true;
     }
-    largest_radius(length(table, row)) < radius(table, row, number).0
+    largest_radius(length(row)) < radius(row, number).0
 }
 
-fn bad_radii(table: &[u8], row: usize) -> bool
-    requires { ⌜ (row < rowsOf (now table)) × (1 ≤ lengthOf (now table) row) × (lengthOf (now table) row ≤ 16) ⌝ }
-    ensures { λ b. ⌜ b ≡ badRadii (now (table .entry)) row 8 ⌝ }
+fn bad_radii(row: &[u8]) -> bool
+    requires { ⌜ (listed.length (now row) ≡ rowLength) × (1 ≤ lengthOf (now row)) × (lengthOf (now row) ≤ 16) ⌝ }
+    ensures { λ b. ⌜ b ≡ badRadii (now (row .entry)) 8 ⌝ }
 {
     let mut number = 0;
     while number < 8 {
-        if bad_radius(table, row, number) {
+        if bad_radius(row, number) {
             return true;
         }
         number += 1;
@@ -51,43 +52,43 @@ fn bad_radii(table: &[u8], row: usize) -> bool
 }
 
 // What stands behind the radii: the step, the places, two zeros.
-fn bad_tail(table: &[u8], row: usize) -> bool
-    requires { ⌜ row < rowsOf (now table) ⌝ }
-    ensures { λ b. ⌜ b ≡ anyOf (tailFaults (now (table .entry)) row) ⌝ }
+fn bad_tail(row: &[u8]) -> bool
+    requires { ⌜ listed.length (now row) ≡ rowLength ⌝ }
+    ensures { λ b. ⌜ b ≡ anyOf (tailFaults (now (row .entry))) ⌝ }
 {
-    if step(table, row) < 1 {
+    if step(row) < 1 {
         return true;
     }
-    if places(table, row) < 1 {
+    if places(row) < 1 {
         return true;
     }
-    if byte(table, row, 14) != 0 {
+    if byte(row, 14) != 0 {
         return true;
     }
-    byte(table, row, 15) != 0
+    byte(row, 15) != 0
 }
 
 // A row that is bad by itself.
-pub fn bad_row(table: &[u8], row: usize) -> bool
-    requires { ⌜ row < rowsOf (now table) ⌝ }
-    ensures { λ b. ⌜ b ≡ badRow (now (table .entry)) row ⌝ }
+pub fn bad_row(row: &[u8]) -> bool
+    requires { ⌜ listed.length (now row) ≡ rowLength ⌝ }
+    ensures { λ b. ⌜ b ≡ badRow (now (row .entry)) ⌝ }
 {
-    let l = length(table, row).0;
+    let l = length(row).0;
     if l < 1 {
         return true;
     }
     if 16 < l {
         return true;
     }
-    let n = radii(table, row);
+    let n = radii(row);
     if n < 1 {
         return true;
     }
     if 8 < n {
         return true;
     }
-    if bad_radii(table, row) {
+    if bad_radii(row) {
         return true;
     }
-    bad_tail(table, row)
+    bad_tail(row)
 }

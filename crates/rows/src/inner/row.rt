@@ -1,60 +1,72 @@
-// The fields of a row.
+// A row of the table, lent as its bytes, and its fields.
 use counts::Length;
 use counts::Radius;
 ghost use mathlib.Core.Path.{_≡_};
 ghost use Prim.Native.Nat.{_<_};
-ghost use Rattle.tables.specs.Row.{byteOf, lengthOf, radiiOf, radiusAt, pairOf, stepOf, placesOf, rowsOf};
+ghost use lib.ListN as listed;
+ghost use Rattle.tables.specs.Row.{rowLength, byteOf, lengthOf, radiiOf, radiusAt, pairOf, stepOf, placesOf};
+ghost use Rattle.tables.specs.Table.{rowsOf, rowAt};
+
+// The row of a number.
+pub fn row_at(table: &[u8], number: usize) -> &[u8]
+    requires { ⌜ number < rowsOf (now table) ⌝ }
+    ensures { λ row. ⌜ (now row ≡ rowAt (now (table .entry)) number) × (listed.length (now row) ≡ rowLength) ⌝ }
+{
+    let from = 16 * number;
+    let to = from + 16;
+    &table[from..to]
+}
 
 // Byte `at` of a row.
-pub fn byte(table: &[u8], row: usize, at: usize) -> usize
-    requires { ⌜ (row < rowsOf (now table)) × (at < 16) ⌝ }
-    ensures { λ b. ⌜ (b ≡ byteOf (now (table .entry)) row at) × (b < 256) ⌝ }
+pub fn byte(row: &[u8], at: usize) -> usize
+    requires { ⌜ (listed.length (now row) ≡ rowLength) × (at < rowLength) ⌝ }
+    ensures { λ b. ⌜ (b ≡ byteOf (now (row .entry)) at) × (b < 256) ⌝ }
 {
-    table[16 * row + at] as usize
+    row[at] as usize
 }
 
 // The number of two bytes at `at`, high byte first.
-fn pair(table: &[u8], row: usize, at: usize) -> usize
-    requires { ⌜ (row < rowsOf (now table)) × (at < 15) ⌝ }
-    ensures { λ b. ⌜ (b ≡ pairOf (now (table .entry)) row at) × (b < 65536) ⌝ }
+fn pair(row: &[u8], at: usize) -> usize
+    requires { ⌜ (listed.length (now row) ≡ rowLength) × (at < 15) ⌝ }
+    ensures { λ b. ⌜ (b ≡ pairOf (now (row .entry)) at) × (b < 65536) ⌝ }
 {
-    256 * byte(table, row, at) + byte(table, row, 1 + at)
+    256 * byte(row, at) + byte(row, 1 + at)
 }
 
-pub fn length(table: &[u8], row: usize) -> Length
-    requires { ⌜ row < rowsOf (now table) ⌝ }
-    ensures { λ l. ⌜ l .0 ≡ lengthOf (now (table .entry)) row ⌝ }
+pub fn length(row: &[u8]) -> Length
+    requires { ⌜ listed.length (now row) ≡ rowLength ⌝ }
+    ensures { λ l. ⌜ l .0 ≡ lengthOf (now (row .entry)) ⌝ }
 {
-    Length(byte(table, row, 0))
+    Length(byte(row, 0))
 }
 
 // The number of radii.
-pub fn radii(table: &[u8], row: usize) -> usize
-    requires { ⌜ row < rowsOf (now table) ⌝ }
-    ensures { λ n. ⌜ n ≡ radiiOf (now (table .entry)) row ⌝ }
+pub fn radii(row: &[u8]) -> usize
+    requires { ⌜ listed.length (now row) ≡ rowLength ⌝ }
+    ensures { λ n. ⌜ n ≡ radiiOf (now (row .entry)) ⌝ }
 {
-    byte(table, row, 1)
+    byte(row, 1)
 }
 
 // The radius of a radius number.
-pub fn radius(table: &[u8], row: usize, number: usize) -> Radius
-    requires { ⌜ (row < rowsOf (now table)) × (number < 8) ⌝ }
-    ensures { λ k. ⌜ (k .0 ≡ radiusAt (now (table .entry)) row number) × (k .0 < 256) ⌝ }
+pub fn radius(row: &[u8], number: usize) -> Radius
+    requires { ⌜ (listed.length (now row) ≡ rowLength) × (number < 8) ⌝ }
+    ensures { λ k. ⌜ (k .0 ≡ radiusAt (now (row .entry)) number) × (k .0 < 256) ⌝ }
 {
-    Radius(byte(table, row, 2 + number))
+    Radius(byte(row, 2 + number))
 }
 
-pub fn step(table: &[u8], row: usize) -> usize
-    requires { ⌜ row < rowsOf (now table) ⌝ }
-    ensures { λ n. ⌜ (n ≡ stepOf (now (table .entry)) row) × (n < 65536) ⌝ }
+pub fn step(row: &[u8]) -> usize
+    requires { ⌜ listed.length (now row) ≡ rowLength ⌝ }
+    ensures { λ n. ⌜ (n ≡ stepOf (now (row .entry))) × (n < 65536) ⌝ }
 {
-    pair(table, row, 10)
+    pair(row, 10)
 }
 
 // The places in this row.
-pub fn places(table: &[u8], row: usize) -> usize
-    requires { ⌜ row < rowsOf (now table) ⌝ }
-    ensures { λ n. ⌜ (n ≡ placesOf (now (table .entry)) row) × (n < 65536) ⌝ }
+pub fn places(row: &[u8]) -> usize
+    requires { ⌜ listed.length (now row) ≡ rowLength ⌝ }
+    ensures { λ n. ⌜ (n ≡ placesOf (now (row .entry))) × (n < 65536) ⌝ }
 {
-    pair(table, row, 12)
+    pair(row, 12)
 }

@@ -10,10 +10,10 @@ use Rattle.rows.proofs.inner.fault.bad_radii.Statement.{statement}
 use Rattle.rows.proofs.inner.fault.bad_radii.Tie as tie
 
 abbrev Inv-loop : tie.InvT-loop
-Inv-loop table row number₀ number = (number ≤ 8) × (badRadii table row number ≡ false)
+Inv-loop row number₀ number = (number ≤ 8) × (badRadii row number ≡ false)
 
 abbrev μ-loop : tie.MeasureT-loop
-μ-loop table row number₀ number = 8 - number
+μ-loop row number₀ number = 8 - number
 
 loop-holds : tie.Need-loop-holds Inv-loop μ-loop
 unfolding badRadii
@@ -26,7 +26,7 @@ returns : tie.Need-returns Inv-loop μ-loop
 returns c =
     let a = c .before .before .before .before .before .args in
     let number = c .before .before .before .loop .number in
-    sym (radius-bad (a .table .now) (a .row) number 8 (omega arith) (sym (c .before .bad-radius .ensures) ∙ c .if1 .taken))
+    sym (radius-bad (a .row .now) number 8 (omega arith) (sym (c .before .bad-radius .ensures) ∙ c .if1 .taken))
 
 add-number : tie.Need-add-number Inv-loop μ-loop
 add-number c = search needs
@@ -38,7 +38,7 @@ loop-again : tie.Need-loop-again Inv-loop μ-loop
 loop-again c =
     let a = c .before .before .before .before .before .args in
     let at = c .before .before .before .loop in
-    (omega arith, radius-good (a .table .now) (a .row) (at .number) (at .inv .1) (sym (c .before .bad-radius .ensures) ∙ c .if1 .left))
+    (omega arith, radius-good (a .row .now) (at .number) (at .inv .1) (sym (c .before .bad-radius .ensures) ∙ c .if1 .left))
 
 returns-2 : tie.Need-returns-2 Inv-loop μ-loop
 returns-2 c =

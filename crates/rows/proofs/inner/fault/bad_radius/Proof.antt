@@ -5,7 +5,7 @@ use mathlib.Core.Bool.{not}
 use lib.Dec.{eqb, ltb}
 use native.Mathlib.Omega.{arith}
 use Rattle.tables.specs.Largest.{largestRadius}
-use Rattle.tables.proofs.Faults.{above-largest, unused-says, disorder-says, used-says}
+use Rattle.tables.proofs.Faults.{radius-above-largest, unused-says, disorder-says, used-says}
 use borrow.Author.Needs.{needs}
 use Rattle.rows.proofs.inner.fault.bad_radius.Statement.{statement}
 use Rattle.rows.proofs.inner.fault.bad_radius.Tie as tie
@@ -19,7 +19,7 @@ radius-requires c κs = search needs
 returns : tie.Need-returns
 returns c =
     let a = c .before .before .before .before .before .args in
-    ap (λ (k : ℕ). not (eqb k 0)) (c .before .radius .ensures .0) ∙ unused-says (a .table .now) (a .row) (a .number) (omega arith)
+    ap (λ (k : ℕ). not (eqb k 0)) (c .before .radius .ensures .0) ∙ unused-says (a .row .now) (a .number) (omega arith)
 
 out-of-order-requires : tie.Need-out-of-order-requires
 out-of-order-requires c κs = search needs
@@ -27,7 +27,7 @@ out-of-order-requires c κs = search needs
 returns-2 : tie.Need-returns-2
 returns-2 c =
     let a = c .before .before .before .before .before .args in
-    disorder-says (a .table .now) (a .row) (a .number) (omega arith) (sym (c .before .out-of-order .ensures) ∙ c .if2 .taken)
+    disorder-says (a .row .now) (a .number) (omega arith) (sym (c .before .out-of-order .ensures) ∙ c .if2 .taken)
 
 length-requires : tie.Need-length-requires
 length-requires c κs = search needs
@@ -44,8 +44,8 @@ returns-3 c =
     let a = st .args in
     let l : c .before .before .before .length .result .0 ≡ _ = c .before .before .before .length .ensures in
     ap₂ ltb (c .before .before .largest-radius .ensures ∙ ap largestRadius l) (c .before .radius2 .ensures .0)
-    ∙ above-largest _ _ (st .pre .2) (st .pre .3)
-    ∙ used-says (a .table .now) (a .row) (a .number) (omega arith)
+    ∙ radius-above-largest (a .row .now) _ (st .pre .2) (st .pre .3)
+    ∙ used-says (a .row .now) (a .number) (omega arith)
     (sym (c .before .before .before .before .before .out-of-order .ensures) ∙ c .before .before .before .before .if2 .left)
 
 pub bad-radius-spec : {M : Type 1} → statement M

@@ -14,13 +14,13 @@ returns : tie.Need-returns
 unfolding badRow
 returns c =
     let a = c .before .before .before .args in
-    rw (lt-ltb (lengthOf (a .table .now) (a .row)) 1 (omega arith))
+    rw (lt-ltb (lengthOf (a .row .now)) 1 (omega arith))
 
 returns-2 : tie.Need-returns-2
 unfolding badRow
 returns-2 c =
     let a = c .before .before .before .before .args in
-    let l = lengthOf (a .table .now) (a .row) in
+    let l = lengthOf (a .row .now) in
     rw (le-ltb l 1 (omega arith), lt-ltb 16 l (omega arith))
 
 radii-requires : tie.Need-radii-requires
@@ -30,16 +30,16 @@ returns-3 : tie.Need-returns-3
 unfolding badRow
 returns-3 c =
     let a = c .before .before .before .before .before .before .args in
-    let l = lengthOf (a .table .now) (a .row) in
-    let n = radiiOf (a .table .now) (a .row) in
+    let l = lengthOf (a .row .now) in
+    let n = radiiOf (a .row .now) in
     rw (le-ltb l 1 (omega arith), le-ltb 16 l (omega arith), lt-ltb n 1 (omega arith))
 
 returns-4 : tie.Need-returns-4
 unfolding badRow
 returns-4 c =
     let a = c .before .before .before .before .before .before .before .args in
-    let l = lengthOf (a .table .now) (a .row) in
-    let n = radiiOf (a .table .now) (a .row) in
+    let l = lengthOf (a .row .now) in
+    let n = radiiOf (a .row .now) in
     rw (le-ltb l 1 (omega arith), le-ltb 16 l (omega arith), le-ltb n 1 (omega arith), lt-ltb 8 n (omega arith))
 
 bad-radii-requires : tie.Need-bad-radii-requires
@@ -49,8 +49,8 @@ returns-5 : tie.Need-returns-5
 unfolding badRow
 returns-5 c =
     let a = c .before .before .before .before .before .before .before .before .before .args in
-    let l = lengthOf (a .table .now) (a .row) in
-    let n = radiiOf (a .table .now) (a .row) in
+    let l = lengthOf (a .row .now) in
+    let n = radiiOf (a .row .now) in
     let bad = sym (c .before .bad-radii .ensures) ∙ c .if5 .taken in
     rw (le-ltb l 1 (omega arith), le-ltb 16 l (omega arith), le-ltb n 1 (omega arith), le-ltb 8 n (omega arith), bad)
 
@@ -61,8 +61,8 @@ returns-6 : tie.Need-returns-6
 unfolding badRow
 returns-6 c =
     let a = c .before .before .before .before .before .before .before .before .before .before .args in
-    let l = lengthOf (a .table .now) (a .row) in
-    let n = radiiOf (a .table .now) (a .row) in
+    let l = lengthOf (a .row .now) in
+    let n = radiiOf (a .row .now) in
     let good = sym (c .before .before .bad-radii .ensures) ∙ c .before .if5 .left in
     rw (le-ltb l 1 (omega arith), le-ltb 16 l (omega arith), le-ltb n 1 (omega arith), le-ltb 8 n (omega arith), good) (c .bad-tail .ensures)
 

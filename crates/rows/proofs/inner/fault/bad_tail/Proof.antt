@@ -16,7 +16,7 @@ step-requires c κs = search needs
 returns : tie.Need-returns
 returns c =
     let a = c .before .before .before .args in
-    rw (lt-ltb (stepOf (a .table .now) (a .row)) 1 (omega arith))
+    rw (lt-ltb (stepOf (a .row .now)) 1 (omega arith))
 
 places-requires : tie.Need-places-requires
 places-requires c κs = search needs
@@ -24,7 +24,7 @@ places-requires c κs = search needs
 returns-2 : tie.Need-returns-2
 returns-2 c =
     let a = c .before .before .before .before .before .args in
-    rw (le-ltb (stepOf (a .table .now) (a .row)) 1 (omega arith), lt-ltb (placesOf (a .table .now) (a .row)) 1 (omega arith))
+    rw (le-ltb (stepOf (a .row .now)) 1 (omega arith), lt-ltb (placesOf (a .row .now)) 1 (omega arith))
 
 byte-requires : tie.Need-byte-requires
 byte-requires c κs = search needs
@@ -33,9 +33,9 @@ returns-3 : tie.Need-returns-3
 returns-3 c =
     let a = c .before .before .before .before .before .before .before .args in
     rw (
-      le-ltb (stepOf (a .table .now) (a .row)) 1 (omega arith),
-      le-ltb (placesOf (a .table .now) (a .row)) 1 (omega arith),
-      ne-eqb (byteOf (a .table .now) (a .row) 14) 0 (omega arith),
+      le-ltb (stepOf (a .row .now)) 1 (omega arith),
+      le-ltb (placesOf (a .row .now)) 1 (omega arith),
+      ne-eqb (byteOf (a .row .now) 14) 0 (omega arith),
     )
 
 byte-requires-2 : tie.Need-byte-requires-2
@@ -45,10 +45,10 @@ returns-4 : tie.Need-returns-4
 returns-4 c =
     let a = c .before .before .before .before .before .before .before .before .args in
     rw (
-      le-ltb (stepOf (a .table .now) (a .row)) 1 (omega arith),
-      le-ltb (placesOf (a .table .now) (a .row)) 1 (omega arith),
-      eq-eqb (byteOf (a .table .now) (a .row) 14) 0 (omega arith),
-      or-false (notZero (a .table .now) (a .row) 15),
+      le-ltb (stepOf (a .row .now)) 1 (omega arith),
+      le-ltb (placesOf (a .row .now)) 1 (omega arith),
+      eq-eqb (byteOf (a .row .now) 14) 0 (omega arith),
+      or-false (notZero (a .row .now) 15),
     )
     (ap (λ (b : ℕ). not (eqb b 0)) (c .byte2 .ensures .0))
 

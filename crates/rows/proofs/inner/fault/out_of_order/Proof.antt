@@ -25,7 +25,7 @@ returns-2 : tie.Need-returns-2
 returns-2 c =
     let a = c .before .before .before .before .before .before .args in
     ap₂ leb (c .before .before .before .radius2 .ensures .0) (c .before .before .radius3 .ensures .0)
-    ∙ next-says (a .table .now) (a .row) (a .number) (c .before .before .before .before .if1 .left)
+    ∙ next-says (a .row .now) (a .number) (c .before .before .before .before .if1 .left)
 
 pub out-of-order-spec : {M : Type 1} → statement M
 out-of-order-spec =

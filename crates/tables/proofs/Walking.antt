@@ -2,18 +2,16 @@
 -- own. Assumes nothing.
 use Prim.Native.Nat.{ℕ, suc, _+_, _≤_, _<_}
 use mathlib.Core.List.{List}
-use mathlib.Core.Path.{_≡_, refl, sym, ap, _∙_}
+use mathlib.Core.Path.{_≡_, refl, ap}
 use native.Mathlib.Decide.{decLt}
-use native.Mathlib.Nat.{zero-add}
 use native.Mathlib.Numerals.{add-one}
 use native.Mathlib.Omega.{arith}
-use Rattle.cells.specs.Bounds.{InTable}
 use Rattle.tables.proofs.Good.{right-size, good-row, good-total}
-use Rattle.tables.proofs.Places.{row-only}
-use Rattle.tables.proofs.Rows.{total-next}
-use Rattle.tables.specs.Table.{placesBefore, placesIn, rowOf, Good, InRow}
-use Rattle.tables.specs.Row.{placesOf, rowsOf}
-use Rattle.places.specs.Bounds.{Sized, Walked, AtRow}
+use Rattle.tables.proofs.Places.{places-grow, row-below, row-holds, row-only}
+use Rattle.tables.proofs.Rows.{row-length, total-next}
+use Rattle.tables.specs.Table.{rowsOf, rowAt, placesBefore, placesIn, rowOf, Good}
+use Rattle.tables.specs.Row.{placesOf, IsRow}
+use Rattle.tables.specs.Way.{Placed, Walked, AtRow}
 
 module _ {t : List ℕ} {row end p : ℕ} (on : Walked t row end p) (inside : p < placesIn t) where
   pub end-to : end ≤ 4096
@@ -30,7 +28,7 @@ module _ {t : List ℕ} {row end p : ℕ} (on : Walked t row end p) (inside : p 
             let same : placesBefore t (suc row) ≡ placesIn t = ap (placesBefore t) last in
             absurd (omega (arith, on .is-end))
 
-    pub next-row : {places : ℕ} → places ≡ placesOf t (row + 1) → AtRow t (row + 1) (end + places) p
+    pub next-row : {places : ℕ} → places ≡ placesOf (rowAt t (row + 1)) → AtRow t (row + 1) (end + places) p
     next-row is-places =
         let row-good = good-row t (on .good) (row + 1) next-below in
         let next = total-next t (suc row) in
@@ -48,8 +46,8 @@ module _ {t : List ℕ} {row end p : ℕ} (at-row : AtRow t row end p) where
   pub its-row : p < placesIn t → row ≡ rowOf t p
   its-row inside = row-only t p row inside (at-row .in-row)
 
-  pub in-table : InTable t row
-  in-table = record { below = at-row .below; row-good = good-row t (at-row .good) row (at-row .below) }
+  pub row-bytes : IsRow (rowAt t row)
+  row-bytes = record { sixteen = row-length t row (at-row .below); row-good = good-row t (at-row .good) row (at-row .below) }
 
   walks-to : (n : ℕ) → p ≤ n → n ≤ p + 1 → Walked t row end n
   walks-to n from to = record {
@@ -72,14 +70,25 @@ pub none-before : (t : List ℕ) → 0 ≡ placesBefore t 0
 unfolding placesBefore
 none-before t = refl
 
--- the first row
-pub some-row : {t : List ℕ} {places : ℕ} → Sized t places → 0 < rowsOf t
-some-row {t} sized = right-size t (sized .good) .rows-from
+-- a place and its row
+module _ {t : List ℕ} {p row : ℕ} (placed : Placed t p row) where
+  pub is-its-row : row ≡ rowOf t p
+  is-its-row = row-only t p row (placed .inside) (placed .in-row)
 
-pub walks-from : {t : List ℕ} {places end : ℕ} → Sized t places → end ≡ placesOf t 0 → Walked t 0 end 0
+  pub row-in-table : row < rowsOf t
+  row-in-table = rw is-its-row (row-below t p (placed .inside))
+
+  pub at-place : {end : ℕ} → end ≡ placesBefore t (row + 1) → AtRow t row end p
+  at-place is-end = record { good = placed .good; below = row-in-table; is-end = rw (add-one row) at is-end; in-row = placed .in-row }
+
+-- a place of a good table, in the row of that place
+pub placed-in : {t : List ℕ} {p row : ℕ} → Good t → p < placesIn t → row ≡ rowOf t p → Placed t p row
+placed-in {t} {p} good inside is-row = record { good = good; inside = inside; in-row = rw is-row (row-holds t p inside) }
+
+-- a good table has a place: its first row has one
+pub first-place : (t : List ℕ) → Good t → 0 < placesIn t
 unfolding placesBefore
-walks-from {t} sized is-end = record { good = sized .good; below = some-row sized; is-end = is-end ∙ sym (zero-add (placesOf t 0)); from = omega arith; to = omega arith }
-
--- and the row of any place
-pub at-place : {t : List ℕ} {row end p : ℕ} → Good t → row < rowsOf t → InRow t p row → end ≡ placesBefore t (row + 1) → AtRow t row end p
-at-place {row = row} good below in-row is-end = record { good = good; below = below; is-end = rw (add-one row) at is-end; in-row = in-row }
+first-place t good =
+    let some = right-size t good .rows-from in
+    let row-good = good-row t good 0 (omega arith) in
+    omega (arith, places-grow t 1 (rowsOf t) some, row-good .places-from)

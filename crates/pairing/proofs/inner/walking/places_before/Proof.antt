@@ -1,39 +1,41 @@
--- `places::inner::walking::places_before` sums the places of the rows before one. Assumes nothing.
+-- `pairing::inner::walking::places_before` sums the places of the rows before one. Assumes nothing.
 use Prim.Native.Nat.{_-_, _≤_}
-use mathlib.Core.Path.{_≡_}
+use mathlib.Core.Path.{_≡_, ap, _∙_}
 use native.Mathlib.Numerals.{add-one}
 use native.Mathlib.Omega.{arith}
 use borrow.Author.Needs.{needs}
 use Rattle.tables.proofs.Good.{good-total}
 use Rattle.tables.proofs.Rows.{total-next}
+use Rattle.tables.proofs.Walking.{none-before}
+use Rattle.tables.specs.Row.{placesOf}
 use Rattle.tables.specs.Table.{placesBefore}
-use Rattle.places.proofs.Walking.{none-before}
-use Rattle.places.proofs.inner.walking.places_before.Statement.{statement}
-use Rattle.places.proofs.inner.walking.places_before.Tie as tie
+use Rattle.pairing.proofs.inner.walking.places_before.Statement.{statement}
+use Rattle.pairing.proofs.inner.walking.places_before.Tie as tie
 
 abbrev Inv-loop : tie.InvT-loop
-Inv-loop table row places₀ at₀ places at = (at ≤ row) × (places ≡ placesBefore table at)
+Inv-loop table row sum₀ at₀ sum at = (at ≤ row) × (sum ≡ placesBefore table at)
 
 abbrev μ-loop : tie.MeasureT-loop
-μ-loop table row places₀ at₀ places at = row - at
+μ-loop table row sum₀ at₀ sum at = row - at
 
 loop-holds : tie.Need-loop-holds Inv-loop μ-loop
 loop-holds c = (omega arith, none-before (c .before .args .table .now))
 
-places-requires : tie.Need-places-requires Inv-loop μ-loop
-places-requires c κs = omega (arith, c .before .before .before .pre .1)
+row-at-requires : tie.Need-row-at-requires Inv-loop μ-loop
+row-at-requires c κs = omega (arith, c .before .before .before .pre .1)
 
-add-places : tie.Need-add-places Inv-loop μ-loop
-add-places c =
-    let a = c .before .before .before .before in
-    let i = c .before .before .loop in
+add-sum : tie.Need-add-sum Inv-loop μ-loop
+add-sum c =
+    let a = c .before .before .before .before .before in
+    let i = c .before .before .before .loop in
     record { fits = omega (arith, i .inv .1, c .places .ensures .1, good-total (a .args .table .now) (a .pre .0) (i .at) (omega (arith, i .inv .0, a .pre .1))) }
 
 loop-again : tie.Need-loop-again Inv-loop μ-loop
 loop-again c =
-    let t = c .before .before .before .before .args .table .now in
-    let i = c .before .before .loop in
-    (omega arith, rw (add-one (i .at)) (omega (arith, total-next t (i .at), i .inv .1, c .places .ensures .0)))
+    let t = c .before .before .before .before .before .args .table .now in
+    let i = c .before .before .before .loop in
+    let places = c .places .ensures .0 ∙ ap placesOf (c .before .row-at .ensures .0) in
+    (omega arith, rw (add-one (i .at)) (omega (arith, total-next t (i .at), i .inv .1, places)))
 
 returns : tie.Need-returns Inv-loop μ-loop
 returns c =
@@ -50,8 +52,9 @@ places-before-spec =
     Inv-loop
     μ-loop
     loop-holds
-    places-requires
-    add-places
+    row-at-requires
+    (λ c κs. search needs)
+    add-sum
     (λ c. search needs)
     (λ c. search needs)
     loop-again

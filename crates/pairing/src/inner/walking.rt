@@ -1,10 +1,10 @@
 // The way through the places of a good table, row by row.
-use rows::inner::row;
+use rows::inner::row::places;
+use rows::inner::row::row_at;
 ghost use mathlib.Core.Path.{_≡_};
 ghost use Prim.Native.Nat.{_<_, _≤_};
-ghost use Rattle.tables.specs.Row.{rowsOf};
-ghost use Rattle.tables.specs.Table.{placesBefore, placesIn, Good, InRow};
-ghost use Rattle.places.specs.Bounds.{Walked, AtRow};
+ghost use Rattle.tables.specs.Table.{rowsOf, placesBefore, placesIn, Good};
+ghost use Rattle.tables.specs.Way.{Placed, Walked, AtRow};
 
 // A row on the way through the places, and the place where it ends.
 pub struct Walk {
@@ -23,7 +23,7 @@ pub fn walked(table: &[u8], walk: Walk, place: usize) -> Walk
     let row = walk.row + 1;
     Walk {
         row,
-        end: walk.end + row::places(table, row),
+        end: walk.end + places(row_at(table, row)),
     }
 }
 
@@ -32,18 +32,18 @@ fn places_before(table: &[u8], row: usize) -> usize
     requires { ⌜ Good (now table) × (row ≤ rowsOf (now table)) ⌝ }
     ensures { λ n. ⌜ (n ≡ placesBefore (now (table .entry)) row) × (n ≤ 4096) ⌝ }
 {
-    let mut places = 0;
+    let mut sum = 0;
     let mut at = 0;
     while at < row {
-        places += row::places(table, at);
+        sum += places(row_at(table, at));
         at += 1;
     }
-    places
+    sum
 }
 
 // The way from a place in this row on.
 pub fn walk_from(table: &[u8], row: usize, place: usize) -> Walk
-    requires { ⌜ Good (now table) × (row < rowsOf (now table)) × InRow (now table) place row ⌝ }
+    requires { ⌜ Placed (now table) place row ⌝ }
     ensures { λ w. ⌜ AtRow (now (table .entry)) (w .row) (w .end) place ⌝ }
 {
     Walk {

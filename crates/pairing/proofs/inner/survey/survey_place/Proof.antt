@@ -1,0 +1,35 @@
+-- `pairing::inner::survey::survey_place` surveys the table, and then looks at the place. Assumes nothing.
+use mathlib.Core.List.{[], _∷_}
+use borrow.Author.Needs.{needs}
+use Rattle.tables.proofs.PlaceChecks.{no-place, some-place}
+use Rattle.tables.proofs.Seven.{table-numbered}
+use Rattle.tables.specs.Table.{placesIn, rowOf, tableChecks, placeCheck}
+use Rattle.pairing.proofs.Surveys.{survey-good, survey-says, one-fails, one-passes}
+use Rattle.pairing.proofs.inner.survey.survey_place.Statement.{statement}
+use Rattle.pairing.proofs.inner.survey.survey_place.Tie as tie
+
+returns : tie.Need-returns
+returns c =
+    let a = c .before .before .before .before .before .before .args in
+    let t = a .table .now in
+    let found = survey-good (tableChecks t) t (a .place) (c .before .before .before .before .survey .ensures) (table-numbered t) (c .before .before .places .given .1) in
+    one-fails found (placeCheck t (a .place)) (no-place t (a .place) (found .is-places) (c .if1 .taken))
+
+returns-2 : tie.Need-returns-2
+returns-2 c =
+    let a = c .before .before .before .before .before .before .args in
+    let t = a .table .now in
+    let found = survey-good (tableChecks t) t (a .place) (c .before .before .before .before .survey .ensures) (table-numbered t) (c .before .before .places .given .1) in
+    one-passes found (placeCheck t (a .place)) (some-place t (a .place) (found .is-places) (c .if1 .left))
+
+returns-3 : tie.Need-returns-3
+returns-3 c =
+    let a = c .before .before .before .before .before .args in
+    let t = a .table .now in
+    survey-says (tableChecks t) t (a .place) (c .before .before .before .survey .ensures) (c .before .refusal .given .1) (placeCheck t (a .place) ∷ [])
+    (0 ∷ placesIn t ∷ rowOf t (a .place) ∷ [])
+
+pub survey-place-spec : {M : Type 1} → statement M
+survey-place-spec =
+    tie.close
+    (tie.spec (λ c κs. search needs) (λ c. search needs) returns (λ c. search needs) returns-2 returns-3)

@@ -1,0 +1,26 @@
+-- The way through the places of a good table, row by row. t is the table's bytes, r the number of a row, p a place. Assumes nothing.
+use Prim.Native.Nat.{ℕ, suc, _≤_, _<_}
+use mathlib.Core.Path.{_≡_}
+use mathlib.Core.List.{List}
+use Rattle.tables.specs.Table.{rowsOf, placesBefore, placesIn, Good, InRow}
+
+-- a place of a good table, and its row
+pub record Placed (t : List ℕ) (p r : ℕ) : Type 0 where
+  pub good : Good t
+  pub inside : p < placesIn t
+  pub in-row : InRow t p r
+
+-- on the way: a row, and the place where it ends. Place p is in that row, or the row ends just before it.
+pub record Walked (t : List ℕ) (r end p : ℕ) : Type 0 where
+  pub good : Good t
+  pub below : r < rowsOf t
+  pub is-end : end ≡ placesBefore t (suc r)
+  pub from : placesBefore t r ≤ p
+  pub to : p ≤ placesBefore t (suc r)
+
+-- place p is in that row
+pub record AtRow (t : List ℕ) (r end p : ℕ) : Type 0 where
+  pub good : Good t
+  pub below : r < rowsOf t
+  pub is-end : end ≡ placesBefore t (suc r)
+  pub in-row : InRow t p r
