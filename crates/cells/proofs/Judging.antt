@@ -7,7 +7,7 @@ use borrow.Author.Tests.{le-leb, lt-leb, lt-ltb, le-ltb, eq-eqb, ne-eqb}
 use Rattle.counts.proofs.Widths.{width-is, width-enough, width-tight}
 use Rattle.counts.specs.Width.{width}
 use Rattle.enumeration.specs.Enumeration.{Enumeration}
-use Rattle.records.specs.Record.{rowIn, numberIn, codewordIn}
+use Rattle.records.specs.Record.{rowIn, radiusNumberIn, codewordIn}
 use Rattle.tables.specs.Row.{lengthOf, radiiOf, radiusAt}
 use Rattle.rules.proofs.Shows.{above-one, some-bits}
 use Rattle.rules.specs.Judging.{judgeCodeword, judgeRecord}
@@ -43,11 +43,11 @@ module _ (e : Enumeration) (t : List ℕ) (r : ℕ) (y : List ℕ) where
   record-9 h = rw (ne-eqb (rowIn y) r h) refl
 
   module _ (here : rowIn y ≡ r) where
-    pub record-10 : radiiOf t r ≤ numberIn y → judged.Unreadable 10 ≡ judgeRecord e t r y
+    pub record-10 : radiiOf t r ≤ radiusNumberIn y → judged.Unreadable 10 ≡ judgeRecord e t r y
     unfolding judgeRecord
-    record-10 h = rw (eq-eqb (rowIn y) r here, le-leb (radiiOf t r) (numberIn y) h) refl
+    record-10 h = rw (eq-eqb (rowIn y) r here, le-leb (radiiOf t r) (radiusNumberIn y) h) refl
 
-    pub record-judged : numberIn y < radiiOf t r
-        → judgeCodeword (e .total (lengthOf t r) (radiusAt t r (numberIn y))) (radiusAt t r (numberIn y)) (codewordIn y) ≡ judgeRecord e t r y
+    pub record-judged : radiusNumberIn y < radiiOf t r
+        → judgeCodeword (e .total (lengthOf t r) (radiusAt t r (radiusNumberIn y))) (radiusAt t r (radiusNumberIn y)) (codewordIn y) ≡ judgeRecord e t r y
     unfolding judgeRecord
-    record-judged h = rw (eq-eqb (rowIn y) r here, lt-leb (radiiOf t r) (numberIn y) h) refl
+    record-judged h = rw (eq-eqb (rowIn y) r here, lt-leb (radiiOf t r) (radiusNumberIn y) h) refl

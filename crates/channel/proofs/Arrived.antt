@@ -28,8 +28,8 @@ module _ (e : Enumeration) (t : List ℕ) (good : Good t) (p : ℕ) (h : p < pla
   held-sound y holds =
       let r = rowOf t p in
       let k = radiusAt t r number in
-      sym (record-judged e t r y (holds .holds-row) (rw (holds .holds-number) in-row))
-      ∙ ap₂ (λ (n c : ℕ). judgeCodeword (e .total (lengthOf t r) (radiusAt t r n)) (radiusAt t r n) c) (holds .holds-number) (holds .holds-codeword)
+      sym (record-judged e t r y (holds .holds-row) (rw (holds .holds-radius-number) in-row))
+      ∙ ap₂ (λ (n c : ℕ). judgeCodeword (e .total (lengthOf t r) (radiusAt t r n)) (radiusAt t r n) c) (holds .holds-radius-number) (holds .holds-codeword)
       ∙ sym (codeword-sound (e .total (lengthOf t r) k) k (e .index q) (e .index-below (lengthOf t r) k q on))
 
   pub arrived-sound : (y : List ℕ) → Holds y p (rowOf t p) number (e .index q) → (xs : List (List ℕ)) → OnlyCame t xs p y → SoundWith e t (grown t xs) p q

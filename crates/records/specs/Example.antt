@@ -4,7 +4,7 @@ use Prim.Native.Nat.{ℕ}
 use mathlib.Core.Path.{_≡_}
 use mathlib.Core.List.{List, [], _∷_}
 use mathlib.Core.Bool.{true, false}
-use Rattle.records.specs.Record.{recordOf, placeIn, rowIn, numberIn, codewordIn, wrongRecord}
+use Rattle.records.specs.Record.{recordOf, placeIn, rowIn, radiusNumberIn, codewordIn, wrongRecord}
 
 abbrev pub bytes : List ℕ
 bytes = 1 ∷ 2 ∷ 3 ∷ 4 ∷ 5 ∷ 6 ∷ 7 ∷ 8 ∷ []
@@ -14,7 +14,7 @@ pub record Example : Type 0 where
   pub written : recordOf 258 3 4 84281096 ≡ bytes
   pub place : placeIn bytes ≡ 258
   pub row : rowIn bytes ≡ 3
-  pub number : numberIn bytes ≡ 4
+  pub number : radiusNumberIn bytes ≡ 4
   pub codeword : codewordIn bytes ≡ 84281096
   -- 7 and 9 bytes are no record
   pub short : wrongRecord 7 ≡ true

@@ -25,8 +25,8 @@ placeIn bytes = fromHigh (take 2 bytes)
 abbrev pub rowIn : List ℕ → ℕ
 rowIn bytes = fromHigh (take 1 (drop 2 bytes))
 
-abbrev pub numberIn : List ℕ → ℕ
-numberIn bytes = fromHigh (take 1 (drop 3 bytes))
+abbrev pub radiusNumberIn : List ℕ → ℕ
+radiusNumberIn bytes = fromHigh (take 1 (drop 3 bytes))
 
 abbrev pub codewordIn : List ℕ → ℕ
 codewordIn bytes = fromHigh (take 4 (drop 4 bytes))
@@ -35,7 +35,7 @@ codewordIn bytes = fromHigh (take 4 (drop 4 bytes))
 pub record Holds (bytes : List ℕ) (place row number codeword : ℕ) : Type 0 where
   pub holds-place : placeIn bytes ≡ place
   pub holds-row : rowIn bytes ≡ row
-  pub holds-number : numberIn bytes ≡ number
+  pub holds-radius-number : radiusNumberIn bytes ≡ number
   pub holds-codeword : codewordIn bytes ≡ codeword
 
 -- fields that fit their bytes, so that nothing is cut

@@ -2,7 +2,7 @@
 ghost use mathlib.Core.Path.{_≡_};
 ghost use Prim.Native.Nat.{_%_, _^_, _<_};
 ghost use lib.ListN.{length, getD};
-ghost use Rattle.records.specs.Record.{recordLength, recordOf, placeIn, rowIn, numberIn, codewordIn};
+ghost use Rattle.records.specs.Record.{recordLength, recordOf, placeIn, rowIn, radiusNumberIn, codewordIn};
 
 // The low byte of a number.
 fn low_byte(n: u64) -> u8
@@ -47,9 +47,9 @@ pub fn row_in(bytes: &[u8]) -> usize
 }
 
 // The radius number.
-pub fn number_in(bytes: &[u8]) -> usize
+pub fn radius_number_in(bytes: &[u8]) -> usize
     requires { ⌜ length (now bytes) ≡ recordLength ⌝ }
-    ensures { λ n. ⌜ (n ≡ numberIn (now (bytes .entry))) × (n < 256) ⌝ }
+    ensures { λ n. ⌜ (n ≡ radiusNumberIn (now (bytes .entry))) × (n < 256) ⌝ }
 {
     byte(bytes, 3)
 }

@@ -17,7 +17,7 @@ use Rattle.enumeration.specs.Enumeration.{Enumeration}
 use Rattle.enumeration.specs.Point.{OnShell, radiusOf}
 use Rattle.tables.specs.Usable.{IsUsable}
 use Rattle.tables.specs.Row.{lengthOf, radiiOf, radiusAt, GoodRow}
-use Rattle.records.specs.Record.{rowIn, numberIn, codewordIn}
+use Rattle.records.specs.Record.{rowIn, radiusNumberIn, codewordIn}
 use Rattle.rules.specs.Cell.{stateOf, recordIn, byState}
 use Rattle.rules.specs.Judging.{judgeCodeword, judgeRecord, judge, Shows}
 use Rattle.rules.specs.declared.Judged.the-variants as judged
@@ -84,16 +84,16 @@ module _ (e : Enumeration) (t : List ℕ) (r : ℕ) (row : GoodRow t r) where
 
   record-shows : (y : List ℕ) → Shows e (lengthOf t r) (judgeRecord e t r y)
   unfolding judgeRecord
-  record-shows y = go (not (eqb (rowIn y) r)) (leb (radiiOf t r) (numberIn y)) refl
+  record-shows y = go (not (eqb (rowIn y) r)) (leb (radiiOf t r) (radiusNumberIn y)) refl
     where
       k : ℕ
-      k = radiusAt t r (numberIn y)
+      k = radiusAt t r (radiusNumberIn y)
 
-      go : (a b : Bool) → leb (radiiOf t r) (numberIn y) ≡ b
+      go : (a b : Bool) → leb (radiiOf t r) (radiusNumberIn y) ≡ b
           → Shows e (lengthOf t r) (pick a (judged.Unreadable 9) (pick b (judged.Unreadable 10) (judgeCodeword (e .total (lengthOf t r) k) k (codewordIn y))))
       go true b q = tt
       go false true q = tt
-      go false false q = codeword-shows k (codewordIn y) (row .radius-usable (numberIn y) (leb-false (radiiOf t r) (numberIn y) q))
+      go false false q = codeword-shows k (codewordIn y) (row .radius-usable (radiusNumberIn y) (leb-false (radiiOf t r) (radiusNumberIn y) q))
 
   -- what a cell shows is the point of an index below the total
   pub judge-shows : (c : List ℕ) → Shows e (lengthOf t r) (judge e t r c)

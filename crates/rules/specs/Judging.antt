@@ -12,7 +12,7 @@ use Rattle.enumeration.specs.Enumeration.{Enumeration}
 use Rattle.tables.specs.Row.{lengthOf, radiiOf, radiusAt}
 use Rattle.tables.specs.Table.{rowOf}
 use Rattle.tables.specs.Usable.{IsUsable}
-use Rattle.records.specs.Record.{rowIn, numberIn, codewordIn}
+use Rattle.records.specs.Record.{rowIn, radiusNumberIn, codewordIn}
 use Rattle.rules.specs.Cell.{cell, stateOf, recordIn, byState}
 use Rattle.rules.specs.declared.Judged.{Judged}
 use Rattle.rules.specs.declared.Judged.the-variants as judged
@@ -27,8 +27,8 @@ judgeCodeword total k n =
 unfoldable pub judgeRecord : Enumeration → List ℕ → ℕ → List ℕ → Judged
 judgeRecord e t r y =
     pick (not (eqb (rowIn y) r)) (judged.Unreadable 9)
-    (pick (leb (radiiOf t r) (numberIn y)) (judged.Unreadable 10)
-    (judgeCodeword (e .total (lengthOf t r) (radiusAt t r (numberIn y))) (radiusAt t r (numberIn y)) (codewordIn y)))
+    (pick (leb (radiiOf t r) (radiusNumberIn y)) (judged.Unreadable 10)
+    (judgeCodeword (e .total (lengthOf t r) (radiusAt t r (radiusNumberIn y))) (radiusAt t r (radiusNumberIn y)) (codewordIn y)))
 
 -- state 0: missing; state 2: contested; a held record is judged
 unfoldable pub judge : Enumeration → List ℕ → ℕ → List ℕ → Judged

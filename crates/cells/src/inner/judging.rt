@@ -6,7 +6,7 @@ use product::inner::range::locate;
 use ranges::inner::power;
 use ranges::inner::total;
 use records::inner::codeword_in;
-use records::inner::number_in;
+use records::inner::radius_number_in;
 use records::inner::row_in;
 use rows::inner::row;
 use rules::Judged;
@@ -61,7 +61,7 @@ fn judge_record(table: &[u8], row: usize, bytes: &[u8]) -> Judged
     if row_in(bytes) != row {
         return Judged::Unreadable { reason: 9 };
     }
-    let number = number_in(bytes);
+    let number = radius_number_in(bytes);
     if row::radii(table, row) <= number {
         return Judged::Unreadable { reason: 10 };
     }

@@ -3,7 +3,7 @@ use mathlib.Core.Path.{_≡_, sym, ap, _∙_}
 use native.Mathlib.Omega.{arith}
 use borrow.Author.Needs.{needs}
 use Rattle.enumeration.proofs.Product.{product}
-use Rattle.records.specs.Record.{rowIn, numberIn}
+use Rattle.records.specs.Record.{rowIn, radiusNumberIn}
 use Rattle.tables.specs.Row.{radiusAt}
 use Rattle.cells.proofs.Judging.{record-9, record-10, record-judged}
 use Rattle.cells.proofs.inner.judging.judge_record.Statement.{statement}
@@ -39,7 +39,7 @@ judge-codeword-requires c κs =
     let is-radii = c .before .before .before .before .radii .ensures in
     let is-length = c .before .before .length .ensures in
     let is-radius = c .before .radius .ensures .0 ∙ ap (radiusAt t r) is-number in
-    rw (is-length, is-radius) (a .pre .0 .row-good .radius-usable (numberIn y) (omega arith))
+    rw (is-length, is-radius) (a .pre .0 .row-good .radius-usable (radiusNumberIn y) (omega arith))
 
 returns-3 : tie.Need-returns-3
 returns-3 c =
