@@ -8,7 +8,7 @@
 use Prim.Native.Nat.{ℕ, zero, suc, _+_, _≤_, _<_}
 use mathlib.Core.List.{List, [], _∷_, _++_, map, append-nil}
 use mathlib.Core.Path.{_≡_, refl, sym, ap, _∙_}
-use native.Mathlib.Nat.{add-zero, zero-add, suc-add}
+use native.Mathlib.Nat.{add-zero, zero-add}
 use native.Mathlib.Numerals.{add-one}
 use native.Mathlib.Omega.{arith}
 use lib.ListN.{length, getD, set, take, drop, replicate, length-append, length-map, length-replicate, getD-replicate, drop-of-length-le, List·getD-map}
@@ -59,15 +59,13 @@ module _ {A : Type 0} where
   pub begins-with : (held made : List A) → length made ≤ length held → written held 0 made (length made) ≡ made ++ drop (length made) held
   begins-with held made h = rw (zero-add (length made)) at (written-between held made 0 (rw (zero-add (length made)) h))
 
-  pub all-written : (held made : List A) (i : ℕ) → length made ≤ i → length made ≡ length held → written held 0 made i ≡ made
+  pub all-written : (held made : List A) (i : ℕ) → length held ≤ i → length made ≡ length held → written held 0 made i ≡ made
   all-written held made i from same =
       let whole = rw (take-length made) at (begins-with held made (omega arith)) in
-      rw (take-all i made from) (whole ∙ rw (drop-of-length-le held {i = length made} (omega arith)) (append-nil made))
+      rw (take-all i made (omega arith)) (whole ∙ rw (drop-of-length-le held {i = length made} (omega arith)) (append-nil made))
 
   pub all-with : (held : List A) (x : A) (i : ℕ) → length held ≤ i → written held 0 (replicate (length held) x) i ≡ replicate (length held) x
-  all-with held x i from =
-      let n = length held in
-      all-written held (replicate n x) i (rw (length-replicate n x) from) (length-replicate n x)
+  all-with held x i from = all-written held (replicate (length held) x) i from (length-replicate (length held) x)
 
   pub all-behind : (held made : List A) (x : A) (i : ℕ) → length made ≤ i → suc (length made) ≡ length held → written (set held 0 x) 1 made i ≡ x ∷ made
   all-behind held made x i from same = all-written held (x ∷ made) (suc i) (omega arith) same
