@@ -15,7 +15,7 @@ use Rattle.enumeration.specs.Reading.{rangeFrom, rangeOf, patternOf, firstMagni
 use Rattle.enumeration.proofs.Product.{product}
 use Rattle.floats.specs.Exact.{over256}
 use Rattle.floats.specs.Nearest.{nearestWhole}
-use Rattle.floats.specs.Units.{ofPattern, unitsOf, unusable, negative}
+use Rattle.floats.specs.Units.{ofPattern, unitsOf, unusableCoefficient, negative}
 use Rattle.tables.specs.Example.{wholeCase}
 use Rattle.tables.specs.Row.{byteOf, badRadius, badRadii, badRow}
 use Rattle.tables.specs.Table.{placesBefore, rowsBefore}
@@ -58,13 +58,13 @@ each-byte n h (suc i) = lit< tt
 
 -- both places of the table
 each-sent : PageSent wholeCase (λ p. vector) (λ p. of p 0 1 5) (λ p. sent)
-unfolding toBits lt N binomial D S B sumAfter rangeSize rangeStart patternIndex shapeOffset shapeIndex signIndex weigh productIndex nearestWhole ofPattern unitsOf unusable negative byteOf badRadius badRadii badRow placesBefore rowsBefore firstBest largest give shared recordOf chosenNumber
+unfolding toBits lt N binomial D S B sumAfter rangeSize rangeStart patternIndex shapeOffset shapeIndex signIndex weigh productIndex nearestWhole ofPattern unitsOf unusableCoefficient negative byteOf badRadius badRadii badRow placesBefore rowsBefore firstBest largest give shared recordOf chosenNumber
 each-sent zero h = record { lent = replicate 8 9; accepted = refl; written = refl; point = refl }
 each-sent (suc zero) h = record { lent = replicate 8 9; accepted = refl; written = refl; point = refl }
 each-sent (suc (suc p)) h = absurd (omega arith)
 
 pub witness : Witness
-unfolding onlyClaims claims toBits round lt N binomial D S B sumAfter rangeSize rangeStart width bitsFrom patternIndex shapeOffset shapeIndex signIndex weigh productIndex rangeFrom rangeOf patternOf firstMagnitude shapeLeft shapeOf signsOf pointFrom pointIn productPoint over256 nearestWhole ofPattern unitsOf unusable negative byteOf badRadius badRadii badRow placesBefore rowsBefore firstBest largest give shared recordOf chosenNumber cell setCell badCell takeCell arrive after judgeCodeword judgeRecord judge
+unfolding onlyClaims claims toBits round lt N binomial D S B sumAfter rangeSize rangeStart width bitsFrom patternIndex shapeOffset shapeIndex signIndex weigh productIndex rangeFrom rangeOf patternOf firstMagnitude shapeLeft shapeOf signsOf pointFrom pointIn productPoint over256 nearestWhole ofPattern unitsOf unusableCoefficient negative byteOf badRadius badRadii badRow placesBefore rowsBefore firstBest largest give shared recordOf chosenNumber cell setCell badCell takeCell arrive after judgeCodeword judgeRecord judge
 witness = record {
   is-sent = record { lent = replicate 8 9; accepted = refl; written = refl; point = refl };
   is-read = record {

@@ -1,13 +1,13 @@
 -- Every line of the example holds by computation. Assumes nothing.
 use mathlib.Core.Path.{refl}
 use lib.Ieee.{toBits, round, lt}
-use Rattle.floats.specs.Units.{ofPattern, unitsOf, unusable, negative}
+use Rattle.floats.specs.Units.{ofPattern, unitsOf, unusableCoefficient, negative}
 use Rattle.floats.specs.Nearest.{nearestWhole}
 use Rattle.floats.specs.Exact.{over256}
 use Rattle.floats.specs.Example.{Example}
 
 pub example : Example
-unfolding ofPattern unitsOf unusable negative nearestWhole over256 toBits round lt
+unfolding ofPattern unitsOf unusableCoefficient negative nearestWhole over256 toBits round lt
 example =
     record {
       whole-1 = refl;

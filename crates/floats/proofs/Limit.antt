@@ -12,7 +12,7 @@ use lib.IntN.{ℤ, pos}
 use lib.Ieee.{Float, nan, inf, fin, binary32, up, down, fits, lt}
 use lib.Ieee.Fits.{down-pos, nearest-le}
 use lib.Ieee.Nearest.{closest}
-use Rattle.floats.specs.Units.{unitsOf, unusable}
+use Rattle.floats.specs.Units.{unitsOf, unusableCoefficient}
 use Rattle.floats.specs.Nearest.{nearestWhole}
 use Rattle.floats.proofs.Value.{units-value}
 
@@ -47,39 +47,39 @@ finite-judged : (s : Bool) (m : ℕ) (e : ℤ) (t : Bool) → T (fits binary32 (
 finite-judged s m e t f h = judged (m * up e) (down e) (unitsOf (fin s m e)) (2 ^ 149) (2 ^ 15) t (units-value s m e f) (lit< tt) (down-pos e) h
 
 -- the two tests of the code
-pub let-through : (x : Float) → T (fits binary32 x) → lt x above ≡ true → lt under x ≡ true → unusable x ≡ false
-unfolding lt unusable
+pub let-through : (x : Float) → T (fits binary32 x) → lt x above ≡ true → lt under x ≡ true → unusableCoefficient x ≡ false
+unfolding lt unusableCoefficient
 let-through nan f g h = absurd (false≢true g)
 let-through (inf true) f g h = absurd (false≢true h)
 let-through (inf false) f g h = absurd (false≢true g)
 let-through (fin true m e) f g h = finite-judged true m e true f h
 let-through (fin false m e) f g h = finite-judged false m e true f g
 
-pub past-limit : (x : Float) → T (fits binary32 x) → lt x above ≡ false → unusable x ≡ true
-unfolding lt unusable
+pub past-limit : (x : Float) → T (fits binary32 x) → lt x above ≡ false → unusableCoefficient x ≡ true
+unfolding lt unusableCoefficient
 past-limit nan f g = refl
 past-limit (inf s) f g = refl
 past-limit (fin true m e) f g = absurd (false≢true (sym g ∙ lt-ltb 0 (m * up e * 1 + 1 * 2 ^ 15 * down e) (omega (arith, down-pos e))))
 past-limit (fin false m e) f g = finite-judged false m e false f g
 
-pub before-limit : (x : Float) → T (fits binary32 x) → lt under x ≡ false → unusable x ≡ true
-unfolding lt unusable
+pub before-limit : (x : Float) → T (fits binary32 x) → lt under x ≡ false → unusableCoefficient x ≡ true
+unfolding lt unusableCoefficient
 before-limit nan f g = refl
 before-limit (inf s) f g = refl
 before-limit (fin true m e) f g = finite-judged true m e false f g
 before-limit (fin false m e) f g = absurd (false≢true (sym g ∙ lt-ltb 0 (1 * 2 ^ 15 * down e + m * up e * 1) (omega (arith, down-pos e))))
 
 -- a usable coefficient is finite, and below 32,768
-pub usable-below : (s : Bool) (m : ℕ) (e : ℤ) → unusable (fin s m e) ≡ false → unitsOf (fin s m e) < 32768 * 2 ^ 149
-unfolding unusable
+pub usable-below : (s : Bool) (m : ℕ) (e : ℤ) → unusableCoefficient (fin s m e) ≡ false → unitsOf (fin s m e) < 32768 * 2 ^ 149
+unfolding unusableCoefficient
 usable-below s m e h = leb-false (32768 * 2 ^ 149) (unitsOf (fin s m e)) h
 
 -- at most 2^23
 under-top : (u c : ℕ) → 0 < c → u < 32768 * c → closest (256 * u) c ≤ 2 ^ 23
 under-top u c cp h = le-trans (nearest-le (256 * u / c) (compare (256 * u % c * 2) c)) (div-lt-iff-lt-mul cp .1 (omega arith))
 
-pub whole-bound : (x : Float) → unusable x ≡ false → nearestWhole x ≤ 2 ^ 23
-unfolding nearestWhole unusable
+pub whole-bound : (x : Float) → unusableCoefficient x ≡ false → nearestWhole x ≤ 2 ^ 23
+unfolding nearestWhole unusableCoefficient
 whole-bound nan h = absurd (false≢true (sym h))
 whole-bound (inf s) h = absurd (false≢true (sym h))
 whole-bound (fin s m e) h = under-top (unitsOf (fin s m e)) (2 ^ 149) (lit< tt) (usable-below s m e h)

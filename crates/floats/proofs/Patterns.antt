@@ -12,7 +12,7 @@ use lib.Pow.{pow-mono, pow-pos}
 use lib.Ieee as ieee
 use lib.Ieee.{Float, nan, inf, fin, binary32, ofBits, isNan}
 use lib.Ieee.Exact.{HasValue}
-use Rattle.floats.specs.Units.{ofFields, ofPattern, unitsOf, unusable}
+use Rattle.floats.specs.Units.{ofFields, ofPattern, unitsOf, unusableCoefficient}
 use Rattle.floats.proofs.Value.{pattern-value, units-of-pattern}
 
 -- X by its fields: below field 142 it is below 32,768 x 2^149, and from there on it is not
@@ -37,12 +37,12 @@ judged field digits h = go (decLt field 142)
     go (no above) = let from : 142 ≤ field = omega arith in le-leb (32768 * 2 ^ 149) (ofFields field digits) (fields-above field digits from) ∙ sym (le-leb 142 field from)
 
 -- the field of the infinities and NaN
-either-unusable : (s b : Bool) → unusable (cond b (inf s) nan) ≡ true
-unfolding unusable
+either-unusable : (s b : Bool) → unusableCoefficient (cond b (inf s) nan) ≡ true
+unfolding unusableCoefficient
 either-unusable s true = refl
 either-unusable s false = refl
 
-last-field : (s : Bool) (field digits : ℕ) → field ≡ 255 → unusable (ieee.ofFields binary32 s field digits) ≡ true
+last-field : (s : Bool) (field digits : ℕ) → field ≡ 255 → unusableCoefficient (ieee.ofFields binary32 s field digits) ≡ true
 unfolding ieee.ofFields
 last-field s zero digits last = absurd (omega arith)
 last-field s (suc x) digits last = rw (eq-eqb (suc x) 255 last) (either-unusable s (eqb digits 0))
@@ -51,27 +51,27 @@ module _ (bits : ℕ) (h : bits < 2 ^ 32) where
   field : ℕ
   field = bits % 2 ^ 31 / 2 ^ 23
 
-  special : field ≡ 255 → unusable (ofBits binary32 bits) ≡ true
+  special : field ≡ 255 → unusableCoefficient (ofBits binary32 bits) ≡ true
   unfolding ofBits field
   special last = last-field (leb (2 ^ 31) bits) (bits % 2 ^ 31 / 2 ^ 23) (bits % 2 ^ 23) last
 
-  ordinary : (x : Float) → ofBits binary32 bits ≡ x → HasValue x (leb (2 ^ 31) bits) (ofPattern bits) (2 ^ 149) → unusable x ≡ leb 142 field
-  unfolding unusable isNan ofPattern field
+  ordinary : (x : Float) → ofBits binary32 bits ≡ x → HasValue x (leb (2 ^ 31) bits) (ofPattern bits) (2 ^ 149) → unusableCoefficient x ≡ leb 142 field
+  unfolding unusableCoefficient isNan ofPattern field
   ordinary nan same v = absurd v
   ordinary (inf s) same v = absurd v
   ordinary (fin s m e) same v =
       ap (leb (32768 * 2 ^ 149)) (ap unitsOf (sym same) ∙ units-of-pattern bits h (ap isNan same))
       ∙ judged (bits % 2 ^ 31 / 2 ^ 23) (bits % 2 ^ 23) (mod-lt bits (lit< tt))
 
-  of-field : unusable (ofBits binary32 bits) ≡ leb 142 field
+  of-field : unusableCoefficient (ofBits binary32 bits) ≡ leb 142 field
   unfolding field
   of-field = go (decLt (bits % 2 ^ 31 / 2 ^ 23) 255)
     where
-      go : Dec (bits % 2 ^ 31 / 2 ^ 23 < 255) → unusable (ofBits binary32 bits) ≡ leb 142 field
+      go : Dec (bits % 2 ^ 31 / 2 ^ 23 < 255) → unusableCoefficient (ofBits binary32 bits) ≡ leb 142 field
       go (yes below) = ordinary (ofBits binary32 bits) refl (pattern-value bits below)
       go (no above) = special (omega arith) ∙ sym (le-leb 142 (bits % 2 ^ 31 / 2 ^ 23) (omega arith))
 
-  pub refused-patterns : unusable (ofBits binary32 bits) ≡ leb (142 * 2 ^ 23) (bits % 2 ^ 31)
+  pub refused-patterns : unusableCoefficient (ofBits binary32 bits) ≡ leb (142 * 2 ^ 23) (bits % 2 ^ 31)
   unfolding field
   refused-patterns = of-field ∙ go (decLt (bits % 2 ^ 31 / 2 ^ 23) 142)
     where

@@ -17,7 +17,7 @@ use lib.Ieee.Fits.{down-pos, up-pos, round-fits}
 use lib.Ieee.Nearest.{closest, closest-same}
 use lib.Ieee.Order.{drop}
 use lib.Ieee.Scale.{grid, overflow, round-same, round-val}
-use Rattle.floats.specs.Units.{unitsOf, unusable, negative}
+use Rattle.floats.specs.Units.{unitsOf, unusableCoefficient, negative}
 use Rattle.floats.specs.Nearest.{nearestWhole}
 use Rattle.floats.proofs.Value.{Digits, units-value, units-digits}
 use Rattle.floats.proofs.Limit.{usable-below, whole-bound}
@@ -122,7 +122,7 @@ from-172 w c = omega arith
 to-173 : (u c : ℕ) → u < 32768 * c → 256 * u + 2 ^ 23 * c < 2 ^ 24 * c
 to-173 u c h = omega arith
 
-positive-rounds : (m : ℕ) (e : ℤ) → T (fits binary32 (fin false m e)) → unusable (fin false m e) ≡ false
+positive-rounds : (m : ℕ) (e : ℤ) → T (fits binary32 (fin false m e)) → unusableCoefficient (fin false m e) ≡ false
     → add binary32 (mul binary32 (fin false m e) scale) beside ≡ ofInt binary32 (pos (nearestWhole (fin false m e) + 2 ^ 23))
 unfolding nearestWhole
 positive-rounds m e f usable =
@@ -149,9 +149,9 @@ zero-rounds e same = rw same refl
 below-zero : (m : ℕ) (e : ℤ) → ltb 0 (suc m * up e * 1 + 0 * 1 * down e) ≡ true
 below-zero m e = let some : 0 < suc m * up e = mul-pos (omega arith) (up-pos e) in lt-ltb 0 (suc m * up e * 1 + 0 * 1 * down e) (omega arith)
 
-pub rounds : (x : Float) → T (fits binary32 x) → unusable x ≡ false → negative x ≡ false
+pub rounds : (x : Float) → T (fits binary32 x) → unusableCoefficient x ≡ false → negative x ≡ false
     → add binary32 (mul binary32 x scale) beside ≡ ofInt binary32 (pos (nearestWhole x + 2 ^ 23))
-unfolding unusable negative lt fits
+unfolding unusableCoefficient negative lt fits
 rounds nan f usable sign = absurd (false≢true (sym usable))
 rounds (inf s) f usable sign = absurd (false≢true (sym usable))
 rounds (fin false m e) f usable sign = positive-rounds m e f usable
@@ -159,7 +159,7 @@ rounds (fin true zero e) f usable sign = zero-rounds e (flat e f)
 rounds (fin true (suc m) e) f usable sign = absurd (false≢true (sym sign ∙ below-zero m e))
 
 -- so that the cast loses nothing
-pub cast : (x : Float) → T (fits binary32 x) → unusable x ≡ false → negative x ≡ false
+pub cast : (x : Float) → T (fits binary32 x) → unusableCoefficient x ≡ false → negative x ≡ false
     → T (inUnsigned binary32 32 (add binary32 (mul binary32 x scale) beside)) × (toUnsigned 32 (add binary32 (mul binary32 x scale) beside) ≡ nearestWhole x + 2 ^ 23)
 unfolding inFloat
 cast x f usable sign =

@@ -9,7 +9,7 @@ use lib.IntN.{ℤ}
 use lib.Ieee.{Float, nan, inf, fin, binary32, up, down, fits, neg, lt}
 use lib.Ieee.Fits.{neg-fits}
 use lib.Ieee.Nearest.{closest}
-use Rattle.floats.specs.Units.{unitsOf, unusable, negative}
+use Rattle.floats.specs.Units.{unitsOf, unusableCoefficient, negative}
 use Rattle.floats.specs.Nearest.{nearestWhole}
 use Rattle.floats.proofs.Value.{units-unsigned}
 
@@ -17,21 +17,21 @@ same-units : (s : Bool) (m : ℕ) (e : ℤ) → T (fits binary32 (fin s m e)) �
 unfolding neg
 same-units s m e f = units-unsigned (not s) s m e (neg-fits binary32 (fin s m e) f) f
 
-pub neg-usable : (x : Float) → T (fits binary32 x) → unusable (neg x) ≡ unusable x
-unfolding neg unusable
+pub neg-usable : (x : Float) → T (fits binary32 x) → unusableCoefficient (neg x) ≡ unusableCoefficient x
+unfolding neg unusableCoefficient
 neg-usable nan f = refl
 neg-usable (inf s) f = refl
 neg-usable (fin s m e) f = ap (λ (u : ℕ). leb (32768 * 2 ^ 149) u) (same-units s m e f)
 
-pub neg-whole : (x : Float) → T (fits binary32 x) → unusable x ≡ false → nearestWhole (neg x) ≡ nearestWhole x
-unfolding neg nearestWhole unusable
+pub neg-whole : (x : Float) → T (fits binary32 x) → unusableCoefficient x ≡ false → nearestWhole (neg x) ≡ nearestWhole x
+unfolding neg nearestWhole unusableCoefficient
 neg-whole nan f h = absurd (false≢true (sym h))
 neg-whole (inf s) f h = absurd (false≢true (sym h))
 neg-whole (fin s m e) f h = ap (λ (u : ℕ). closest (256 * u) (2 ^ 149)) (same-units s m e f)
 
 -- the negation of a negative coefficient is not negative
-pub neg-negative : (x : Float) → unusable x ≡ false → negative x ≡ true → negative (neg x) ≡ false
-unfolding neg negative lt unusable
+pub neg-negative : (x : Float) → unusableCoefficient x ≡ false → negative x ≡ true → negative (neg x) ≡ false
+unfolding neg negative lt unusableCoefficient
 neg-negative nan h g = absurd (false≢true g)
 neg-negative (inf s) h g = absurd (false≢true (sym h))
 neg-negative (fin true m e) h g = le-ltb (m * up e * 1) (0 * 1 * down e) (omega arith)

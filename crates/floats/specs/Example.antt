@@ -5,7 +5,7 @@ use mathlib.Core.Path.{_≡_}
 use mathlib.Core.Bool.{Bool, true, false}
 use lib.Ieee.{Float, nan, inf, fin, binary32, toBits}
 use lib.IntN.{pos, negsuc}
-use Rattle.floats.specs.Units.{unitsOf, unusable, negative}
+use Rattle.floats.specs.Units.{unitsOf, unusableCoefficient, negative}
 use Rattle.floats.specs.Nearest.{nearestWhole}
 use Rattle.floats.specs.Exact.{over256}
 
@@ -20,12 +20,12 @@ pub record Example : Type 0 where
   pub whole-5 : nearestWhole (over512 true 5) ≡ 2
   -- the largest f32 below 32,768 becomes 8,388,608; 32,768 is refused
   pub whole-largest : nearestWhole (over512 false (2 ^ 24 - 1)) ≡ 8388608
-  pub largest-usable : unusable (over512 true (2 ^ 24 - 1)) ≡ false
-  pub limit-refused : unusable (fin false 1 (pos 15)) ≡ true
-  pub negative-limit-refused : unusable (fin true 1 (pos 15)) ≡ true
-  pub nan-refused : unusable nan ≡ true
-  pub infinity-refused : unusable (inf false) ≡ true
-  pub negative-infinity-refused : unusable (inf true) ≡ true
+  pub largest-usable : unusableCoefficient (over512 true (2 ^ 24 - 1)) ≡ false
+  pub limit-refused : unusableCoefficient (fin false 1 (pos 15)) ≡ true
+  pub negative-limit-refused : unusableCoefficient (fin true 1 (pos 15)) ≡ true
+  pub nan-refused : unusableCoefficient nan ≡ true
+  pub infinity-refused : unusableCoefficient (inf false) ≡ true
+  pub negative-infinity-refused : unusableCoefficient (inf true) ≡ true
   -- negative is below zero, which neither zero is
   pub below-zero : negative (over512 true 1) ≡ true
   pub above-zero : negative (over512 false 1) ≡ false

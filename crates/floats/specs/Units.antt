@@ -21,10 +21,10 @@ unfolding ofPattern
 unitsOf x = ofPattern (toBits binary32 x)
 
 -- NaN, infinities and values of magnitude 32,768 or more are refused
-unfoldable pub unusable : Float → Bool
-unusable nan = true
-unusable (inf s) = true
-unusable (fin s m e) = leb (32768 * 2 ^ 149) (unitsOf (fin s m e))
+unfoldable pub unusableCoefficient : Float → Bool
+unusableCoefficient nan = true
+unusableCoefficient (inf s) = true
+unusableCoefficient (fin s m e) = leb (32768 * 2 ^ 149) (unitsOf (fin s m e))
 
 -- the sign of a coefficient: below zero, which neither of the two zeros is
 unfoldable pub negative : Float → Bool

@@ -4,13 +4,13 @@ ghost use mathlib.Core.Path.{_≡_};
 ghost use mathlib.Core.Bool.{false};
 ghost use Prim.Native.Nat.{_^_, _≤_, _<_};
 ghost use lib.IntN.{natAbs};
-ghost use Rattle.floats.specs.Units.{unusable, negative};
+ghost use Rattle.floats.specs.Units.{unusableCoefficient, negative};
 ghost use Rattle.floats.specs.Nearest.{nearestWhole};
 ghost use Rattle.floats.specs.Exact.{over256};
 
 // A NaN is neither above nor below anything, so it falls through both comparisons.
 pub fn is_unusable(x: f32) -> bool
-    ensures { λ b. ⌜ b ≡ unusable x ⌝ }
+    ensures { λ b. ⌜ b ≡ unusableCoefficient x ⌝ }
 {
     if x < 32768.0 {
         if -32768.0 < x {
@@ -28,7 +28,7 @@ pub fn is_negative(x: f32) -> bool
 
 // Beside 2^23 an f32 has no room for a fraction: the addition itself rounds to the nearest whole number, ties to even.
 fn rounded(x: f32) -> u32
-    requires { ⌜ (unusable x ≡ false) × (negative x ≡ false) ⌝ }
+    requires { ⌜ (unusableCoefficient x ≡ false) × (negative x ≡ false) ⌝ }
     ensures { λ r. ⌜ (r ≡ nearestWhole x) × (r ≤ 2 ^ 23) ⌝ }
 {
     (x * 256.0 + 8388608.0) as u32 - 8388608
@@ -36,7 +36,7 @@ fn rounded(x: f32) -> u32
 
 // The magnitude of the whole number nearest to 256x.
 pub fn nearest_whole(x: f32) -> u32
-    requires { ⌜ unusable x ≡ false ⌝ }
+    requires { ⌜ unusableCoefficient x ≡ false ⌝ }
     ensures { λ r. ⌜ (r ≡ nearestWhole x) × (r ≤ 2 ^ 23) ⌝ }
 {
     if is_negative(x) {

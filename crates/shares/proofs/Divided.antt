@@ -22,41 +22,41 @@ shared-is (suc k) ms h = refl
 
 -- what `divide` leaves of the magnitudes ms
 abbrev pub Divided : ℕ → ℕ → List ℕ → List ℕ → List ℕ → Type 0
-Divided k total ms parts rests = (parts ≡ map (wholePart k total) ms) × (rests ≡ map (remainder k total) ms)
+Divided k total ms wholes rests = (wholes ≡ map (wholePart k total) ms) × (rests ≡ map (remainder k total) ms)
 
-module _ {k total : ℕ} {ms room parts rests : List ℕ} (s : Sharable k total ms room) (d : Divided k total ms parts rests) where
+module _ {k total : ℕ} {ms room wholes rests : List ℕ} (s : Sharable k total ms room) (d : Divided k total ms wholes rests) where
   some-sum : 0 < sumOf ms
   some-sum = omega (arith, s .is-total, s .some)
 
-  is-parts : parts ≡ wholeParts k ms
-  is-parts = d .0 ∙ ap (λ (sum : ℕ). map (wholePart k sum) ms) (s .is-total)
+  is-wholes : wholes ≡ wholeParts k ms
+  is-wholes = d .0 ∙ ap (λ (sum : ℕ). map (wholePart k sum) ms) (s .is-total)
 
   is-rests : rests ≡ remainders k ms
   is-rests = d .1 ∙ ap (λ (sum : ℕ). map (remainder k sum) ms) (s .is-total)
 
-  parts-long : length parts ≡ length ms
-  parts-long = ap length is-parts ∙ length-map ms (wholePart k (sumOf ms))
+  wholes-long : length wholes ≡ length ms
+  wholes-long = ap length is-wholes ∙ length-map ms (wholePart k (sumOf ms))
 
-  fit : sumOf parts ≤ k
-  fit = le-trans (le-of-eq (ap sumOf is-parts)) (wholes-fit k ms some-sum)
+  fit : sumOf wholes ≤ k
+  fit = le-trans (le-of-eq (ap sumOf is-wholes)) (wholes-fit k ms some-sum)
 
-  pub summable : (length parts ≤ 16) × AllUpTo (2 ^ 23) parts
-  summable = (omega (arith, parts-long, s .up-to-16), λ i below. omega (arith, none-above-sum parts i, fit, s .up-to-32))
+  pub summable : (length wholes ≤ 16) × AllUpTo (2 ^ 23) wholes
+  summable = (omega (arith, wholes-long, s .up-to-16), λ i below. omega (arith, none-above-sum wholes i, fit, s .up-to-32))
 
-  module _ {n : ℕ} (is-sum : n ≡ sumOf parts) where
+  module _ {n : ℕ} (is-sum : n ≡ sumOf wholes) where
     pub sum-fits : n ≤ k
     sum-fits = omega (arith, fit)
 
-    pub givable : (0 < length parts) × (length rests ≡ length parts) × (sumOf parts + (k - n) ≤ 32)
+    pub givable : (0 < length wholes) × (length rests ≡ length wholes) × (sumOf wholes + (k - n) ≤ 32)
     givable = (
-      omega (arith, parts-long, some-length ms some-sum),
-      ap length is-rests ∙ length-map ms (remainder k (sumOf ms)) ∙ sym parts-long,
+      omega (arith, wholes-long, some-length ms some-sum),
+      ap length is-rests ∙ length-map ms (remainder k (sumOf ms)) ∙ sym wholes-long,
       omega (arith, fit, s .up-to-32),
     )
 
-    pub given : {parts′ rests′ : List ℕ} → (parts′ ≡ give (k - n) rests parts) × (rests′ ≡ leftOf (k - n) rests)
-        → (parts′ ≡ shared k ms) × (rests′ ≡ leftOf (unitsLeft k ms) (remainders k ms))
+    pub given : {shares left : List ℕ} → (shares ≡ give (k - n) rests wholes) × (left ≡ leftOf (k - n) rests)
+        → (shares ≡ shared k ms) × (left ≡ leftOf (unitsLeft k ms) (remainders k ms))
     given did = (
-      did .0 ∙ rw (is-sum, is-parts, is-rests) (shared-is k ms (s .above-0)),
-      did .1 ∙ rw (is-sum, is-parts, is-rests) refl,
+      did .0 ∙ rw (is-sum, is-wholes, is-rests) (shared-is k ms (s .above-0)),
+      did .1 ∙ rw (is-sum, is-wholes, is-rests) refl,
     )

@@ -44,49 +44,49 @@ one-spent (zero ∷ rests) (suc at) h p = one-spent rests at (omega arith) p
 one-spent (suc r ∷ rests) (suc at) h p = ap suc (one-spent rests at (omega arith) p)
 
 -- and the sum is one more
-pub one-added : (parts : List ℕ) (at : ℕ) → at < length parts → sumOf (set parts at (suc (getD parts at 0))) ≡ suc (sumOf parts)
+pub one-added : (shares : List ℕ) (at : ℕ) → at < length shares → sumOf (set shares at (suc (getD shares at 0))) ≡ suc (sumOf shares)
 one-added [] at h = absurd (omega arith)
-one-added (i ∷ parts) zero h = omega arith
-one-added (i ∷ parts) (suc at) h = omega (arith, one-added parts at (omega arith))
+one-added (i ∷ shares) zero h = omega arith
+one-added (i ∷ shares) (suc at) h = omega (arith, one-added shares at (omega arith))
 
-pub give-length : (n : ℕ) (rests parts : List ℕ) → length (give n rests parts) ≡ length parts
+pub give-length : (n : ℕ) (rests shares : List ℕ) → length (give n rests shares) ≡ length shares
 unfolding give
-give-length zero rests parts = refl
-give-length (suc n) rests parts = give-length n (spent rests) (oneMore rests parts) ∙ length-set parts (largest rests) (suc (getD parts (largest rests) 0))
+give-length zero rests shares = refl
+give-length (suc n) rests shares = give-length n (spent rests) (oneMore rests shares) ∙ length-set shares (largest rests) (suc (getD shares (largest rests) 0))
 
-pub give-sum : (n : ℕ) (rests parts : List ℕ) → n ≤ withRemainder rests → length rests ≡ length parts → sumOf (give n rests parts) ≡ n + sumOf parts
+pub give-sum : (n : ℕ) (rests shares : List ℕ) → n ≤ withRemainder rests → length rests ≡ length shares → sumOf (give n rests shares) ≡ n + sumOf shares
 unfolding give
-give-sum zero rests parts h same = omega arith
-give-sum (suc n) rests parts h same =
+give-sum zero rests shares h same = omega arith
+give-sum (suc n) rests shares h same =
     let at = largest rests in
     let (below, some) = largest-some rests (omega arith) in
     let count : withRemainder rests ≡ suc (withRemainder (spent rests)) = one-spent rests at below some in
-    let added : sumOf (oneMore rests parts) ≡ suc (sumOf parts) = one-added parts at (omega arith) in
-    let long : length (spent rests) ≡ length (oneMore rests parts) = length-set rests at 0 ∙ same ∙ sym (length-set parts at (suc (getD parts at 0))) in
-    omega (arith, give-sum n (spent rests) (oneMore rests parts) (omega arith) long)
+    let added : sumOf (oneMore rests shares) ≡ suc (sumOf shares) = one-added shares at (omega arith) in
+    let long : length (spent rests) ≡ length (oneMore rests shares) = length-set rests at 0 ∙ same ∙ sym (length-set shares at (suc (getD shares at 0))) in
+    omega (arith, give-sum n (spent rests) (oneMore rests shares) (omega arith) long)
 
-pub give-keeps : (n : ℕ) (rests parts : List ℕ) (i : ℕ) → n ≤ withRemainder rests → getD rests i 0 ≡ 0 → getD (give n rests parts) i 0 ≡ getD parts i 0
+pub give-keeps : (n : ℕ) (rests shares : List ℕ) (i : ℕ) → n ≤ withRemainder rests → getD rests i 0 ≡ 0 → getD (give n rests shares) i 0 ≡ getD shares i 0
 unfolding give
-give-keeps zero rests parts i h none = refl
-give-keeps (suc n) rests parts i h none =
+give-keeps zero rests shares i h none = refl
+give-keeps (suc n) rests shares i h none =
     let at = largest rests in
     let (below, some) = largest-some rests (omega arith) in
     let count : withRemainder rests ≡ suc (withRemainder (spent rests)) = one-spent rests at below some in
     let other : i ≡ at → ⊥ = λ e. omega (arith, some, none, ap (λ (j : ℕ). getD rests j 0) e) in
-    give-keeps n (spent rests) (oneMore rests parts) i (omega arith) (getD-set-other rests at i 0 0 other ∙ none)
-    ∙ getD-set-other parts at i (suc (getD parts at 0)) 0 other
+    give-keeps n (spent rests) (oneMore rests shares) i (omega arith) (getD-set-other rests at i 0 0 other ∙ none)
+    ∙ getD-set-other shares at i (suc (getD shares at 0)) 0 other
 
 -- a turn of the loop that gives
-pub gives : (n : ℕ) (rests parts : List ℕ) (at : ℕ) → 0 < n → at ≡ largest rests
-    → give (n - 1) (set rests at 0) (set parts at (getD parts at 0 + 1)) ≡ give n rests parts
+pub gives : (n : ℕ) (rests shares : List ℕ) (at : ℕ) → 0 < n → at ≡ largest rests
+    → give (n - 1) (set rests at 0) (set shares at (getD shares at 0 + 1)) ≡ give n rests shares
 unfolding give
-gives zero rests parts at h same = absurd (omega arith)
-gives (suc n) rests parts at h same = let less : suc n - 1 ≡ n = omega arith in rw (less, add-one (getD parts at 0), same) refl
+gives zero rests shares at h same = absurd (omega arith)
+gives (suc n) rests shares at h same = let less : suc n - 1 ≡ n = omega arith in rw (less, add-one (getD shares at 0), same) refl
 
 pub spends : (n : ℕ) (rests : List ℕ) (at : ℕ) → 0 < n → at ≡ largest rests → leftOf (n - 1) (set rests at 0) ≡ leftOf n rests
 unfolding leftOf
 spends zero rests at h same = absurd (omega arith)
 spends (suc n) rests at h same = let less : suc n - 1 ≡ n = omega arith in rw (less, same) refl
 
-pub grows : (parts : List ℕ) (at : ℕ) → at < length parts → sumOf (set parts at (getD parts at 0 + 1)) ≡ suc (sumOf parts)
-grows parts at h = rw (add-one (getD parts at 0)) (one-added parts at h)
+pub grows : (shares : List ℕ) (at : ℕ) → at < length shares → sumOf (set shares at (getD shares at 0 + 1)) ≡ suc (sumOf shares)
+grows shares at h = rw (add-one (getD shares at 0)) (one-added shares at h)

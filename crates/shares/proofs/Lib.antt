@@ -1,5 +1,5 @@
 pub mod Best
-pub mod Filling
+pub mod Mapped
 pub mod Sums
 pub mod Giving
 pub mod Sharing

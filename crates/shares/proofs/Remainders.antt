@@ -1,5 +1,5 @@
 -- The shares are those of the largest remainders, and no other numbers are (specs/Remainders.antt). Assumes nothing.
-use Prim.Native.Nat.{ℕ, zero, suc, _*_, _/_, _≤_, _<_}
+use Prim.Native.Nat.{ℕ, zero, suc, _/_, _≤_, _<_}
 use mathlib.Core.Path.{_≡_, refl, sym, ap, _∙_}
 use mathlib.Core.List.{List, [], _∷_, map}
 use mathlib.Core.Logic.{_⊎_, inl, inr, ⊎-elim}
@@ -7,25 +7,25 @@ use native.Mathlib.Omega.{arith}
 use native.Mathlib.Decide.{ℕ-discrete, decLt}
 use native.Mathlib.Nat.{zero-mul, zero-div}
 use borrow.Author.Tests.{ltb-true}
-use lib.ListN.{length, getD, set, length-set, length-map}
+use lib.ListN.{length, getD, length-set, length-map}
 use lib.Seq.{getD-set-same, getD-set-other, ext-getD}
 use Rattle.enumeration.specs.Point.{sumOf}
 use Rattle.shares.specs.Shares.{wholePart, remainder, wholeParts, remainders, withRemainder, largest, spent, oneMore, give, leftOf, unitsLeft, shared}
 use Rattle.shares.specs.Remainders.{wholeAt, restAt, Before, IsShared}
-use Rattle.shares.proofs.Filling.{read-map}
+use Rattle.shares.proofs.Mapped.{read-map}
 use Rattle.shares.proofs.Giving.{largest-is, largest-some, none-larger, one-spent}
 use Rattle.shares.proofs.Sums.{units-enough}
 use Rattle.shares.proofs.Sharing.{shared-length, shared-sum}
 
 -- ---- units given one by one
--- Of remainders rs and whole parts ws, `rests` and `parts` are left: each coordinate has both as they were, or one more and nothing of its remainder;
+-- Of remainders rs and whole parts ws, `rests` and `shares` are left: each coordinate has both as they were, or one more and nothing of its remainder;
 -- and those that have one more come before those that have not.
-record Given (rs ws rests parts : List ℕ) : Type 0 where
+record Given (rs ws rests shares : List ℕ) : Type 0 where
   rests-long : length rests ≡ length rs
-  parts-long : length parts ≡ length rs
+  shares-long : length shares ≡ length rs
   each : (i : ℕ) → i < length rs
-      → ((getD parts i 0 ≡ getD ws i 0) × (getD rests i 0 ≡ getD rs i 0)) ⊎ ((getD parts i 0 ≡ suc (getD ws i 0)) × (getD rests i 0 ≡ 0))
-  in-order : (i j : ℕ) → i < length rs → j < length rs → getD parts i 0 ≡ suc (getD ws i 0) → getD parts j 0 ≡ getD ws j 0
+      → ((getD shares i 0 ≡ getD ws i 0) × (getD rests i 0 ≡ getD rs i 0)) ⊎ ((getD shares i 0 ≡ suc (getD ws i 0)) × (getD rests i 0 ≡ 0))
+  in-order : (i j : ℕ) → i < length rs → j < length rs → getD shares i 0 ≡ suc (getD ws i 0) → getD shares j 0 ≡ getD ws j 0
       → Before (λ (x : ℕ). getD rs x 0) i j
 
 module _ (rs ws : List ℕ) where
@@ -33,13 +33,13 @@ module _ (rs ws : List ℕ) where
   none-given : length ws ≡ length rs → Given rs ws rs ws
   none-given same = record {
     rests-long = refl;
-    parts-long = same;
+    shares-long = same;
     each = λ i h. inl (refl, refl);
     in-order = λ i j h g more whole. absurd (omega arith);
   }
 
   -- one unit more, to the largest remainder that is left
-  module _ (rests parts : List ℕ) (given : Given rs ws rests parts) (some : 0 < withRemainder rests) where
+  module _ (rests shares : List ℕ) (given : Given rs ws rests shares) (some : 0 < withRemainder rests) where
     at : ℕ
     at = largest rests
 
@@ -52,29 +52,29 @@ module _ (rs ws : List ℕ) where
     above-0 = largest-some rests some .1
 
     -- nothing of it was given yet
-    untouched : (getD parts at 0 ≡ getD ws at 0) × (getD rests at 0 ≡ getD rs at 0)
+    untouched : (getD shares at 0 ≡ getD ws at 0) × (getD rests at 0 ≡ getD rs at 0)
     untouched = ⊎-elim (λ kept. kept) (λ got. absurd (omega (arith, above-0, got .1))) (given .each at below)
 
     -- afterwards it is spent, and has one more
-    part-at : getD (oneMore rests parts) at 0 ≡ suc (getD ws at 0)
+    share-at : getD (oneMore rests shares) at 0 ≡ suc (getD ws at 0)
     unfolding at
-    part-at = getD-set-same parts (largest rests) (suc (getD parts (largest rests) 0)) 0 (omega (arith, below, given .parts-long)) ∙ ap suc (untouched .0)
+    share-at = getD-set-same shares (largest rests) (suc (getD shares (largest rests) 0)) 0 (omega (arith, below, given .shares-long)) ∙ ap suc (untouched .0)
 
     rest-at : getD (spent rests) at 0 ≡ 0
     unfolding at
     rest-at = getD-set-same rests (largest rests) 0 0 (omega (arith, below, given .rests-long))
 
     module _ (i : ℕ) (other : i ≡ at → ⊥) where
-      part-of : getD (oneMore rests parts) i 0 ≡ getD parts i 0
+      share-of : getD (oneMore rests shares) i 0 ≡ getD shares i 0
       unfolding at
-      part-of = getD-set-other parts (largest rests) i (suc (getD parts (largest rests) 0)) 0 other
+      share-of = getD-set-other shares (largest rests) i (suc (getD shares (largest rests) 0)) 0 other
 
       rest-of : getD (spent rests) i 0 ≡ getD rests i 0
       unfolding at
       rest-of = getD-set-other rests (largest rests) i 0 0 other
 
       -- another that has not got one comes after it
-      comes-after : i < length rs → getD parts i 0 ≡ getD ws i 0 → Before (λ (x : ℕ). getD rs x 0) at i
+      comes-after : i < length rs → getD shares i 0 ≡ getD ws i 0 → Before (λ (x : ℕ). getD rs x 0) at i
       unfolding at
       comes-after h whole = go (decLt (getD rs i 0) (getD rs at 0)) (decLt i at)
         where
@@ -88,33 +88,33 @@ module _ (rs ws : List ℕ) where
           go (no not-less) (no not-lower) =
               inr (omega (arith, kept, untouched .1, none-larger rests i (omega (arith, given .rests-long))), omega (arith, other))
 
-    one-given : Given rs ws (spent rests) (oneMore rests parts)
+    one-given : Given rs ws (spent rests) (oneMore rests shares)
     one-given = record {
       rests-long = length-set rests (largest rests) 0 ∙ given .rests-long;
-      parts-long = length-set parts (largest rests) (suc (getD parts (largest rests) 0)) ∙ given .parts-long;
+      shares-long = length-set shares (largest rests) (suc (getD shares (largest rests) 0)) ∙ given .shares-long;
       each = λ i h. each-then i h (ℕ-discrete i at);
       in-order = λ i j h g more whole. order-then i j h g more whole (ℕ-discrete i at) (ℕ-discrete j at);
     }
       where
         each-then : (i : ℕ) → i < length rs → Dec (i ≡ at)
-            → ((getD (oneMore rests parts) i 0 ≡ getD ws i 0) × (getD (spent rests) i 0 ≡ getD rs i 0))
-            ⊎ ((getD (oneMore rests parts) i 0 ≡ suc (getD ws i 0)) × (getD (spent rests) i 0 ≡ 0))
-        each-then i h (yes same) = rw same (inr (part-at, rest-at))
-        each-then i h (no other) = rw (part-of i other, rest-of i other) (given .each i h)
+            → ((getD (oneMore rests shares) i 0 ≡ getD ws i 0) × (getD (spent rests) i 0 ≡ getD rs i 0))
+            ⊎ ((getD (oneMore rests shares) i 0 ≡ suc (getD ws i 0)) × (getD (spent rests) i 0 ≡ 0))
+        each-then i h (yes same) = rw same (inr (share-at, rest-at))
+        each-then i h (no other) = rw (share-of i other, rest-of i other) (given .each i h)
 
-        order-then : (i j : ℕ) → i < length rs → j < length rs → getD (oneMore rests parts) i 0 ≡ suc (getD ws i 0) → getD (oneMore rests parts) j 0 ≡ getD ws j 0
+        order-then : (i j : ℕ) → i < length rs → j < length rs → getD (oneMore rests shares) i 0 ≡ suc (getD ws i 0) → getD (oneMore rests shares) j 0 ≡ getD ws j 0
             → Dec (i ≡ at) → Dec (j ≡ at) → Before (λ (x : ℕ). getD rs x 0) i j
-        order-then i j h g more whole d (yes same) = absurd (omega (arith, rw same at whole, part-at))
-        order-then i j h g more whole (yes same) (no other) = rw same (comes-after j other g (sym (part-of j other) ∙ whole))
-        order-then i j h g more whole (no apart) (no other) = given .in-order i j h g (sym (part-of i apart) ∙ more) (sym (part-of j other) ∙ whole)
+        order-then i j h g more whole d (yes same) = absurd (omega (arith, rw same at whole, share-at))
+        order-then i j h g more whole (yes same) (no other) = rw same (comes-after j other g (sym (share-of j other) ∙ whole))
+        order-then i j h g more whole (no apart) (no other) = given .in-order i j h g (sym (share-of i apart) ∙ more) (sym (share-of j other) ∙ whole)
 
-  all-given : (n : ℕ) (rests parts : List ℕ) → Given rs ws rests parts → n ≤ withRemainder rests → Given rs ws (leftOf n rests) (give n rests parts)
+  all-given : (n : ℕ) (rests shares : List ℕ) → Given rs ws rests shares → n ≤ withRemainder rests → Given rs ws (leftOf n rests) (give n rests shares)
   unfolding give leftOf
-  all-given zero rests parts given h = given
-  all-given (suc n) rests parts given h =
+  all-given zero rests shares given h = given
+  all-given (suc n) rests shares given h =
       let (below, some) = largest-some rests (omega arith) in
       let count : withRemainder rests ≡ suc (withRemainder (spent rests)) = one-spent rests (largest rests) below some in
-      all-given n (spent rests) (oneMore rests parts) (one-given rests parts given (omega arith)) (omega arith)
+      all-given n (spent rests) (oneMore rests shares) (one-given rests shares given (omega arith)) (omega arith)
 
 -- ---- the shares are those of the largest remainders
 module _ (k : ℕ) (ms : List ℕ) where

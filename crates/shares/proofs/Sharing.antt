@@ -7,8 +7,7 @@ use native.Mathlib.Omega.{arith}
 use native.Mathlib.Nat.{le-trans, le-of-eq, mul-zero, zero-div, zero-mod}
 use lib.ListN.{length, getD, length-map, List·getD-map}
 use Rattle.enumeration.specs.Point.{sumOf}
-use Rattle.shares.specs.Shares.{AllUpTo}
-use Rattle.shares.specs.Shares.{wholePart, remainder, wholeParts, remainders, unitsLeft, shared}
+use Rattle.shares.specs.Shares.{AllUpTo, wholePart, remainder, wholeParts, remainders, unitsLeft, shared}
 use Rattle.shares.proofs.Sums.{wholes-fit, units-enough}
 use Rattle.shares.proofs.Giving.{give-length, give-sum, give-keeps}
 

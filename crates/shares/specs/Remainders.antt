@@ -1,6 +1,6 @@
 -- Largest remainders as a property (document 01, "Quantizing into a record": "each coordinate gets the whole part of k x a_i / A, and one more goes to
 -- each of the largest remainders until the sum is k; among equal remainders the lower coordinate first"). k is the radius, ms are the magnitudes a_i,
--- ps what the coordinates get. proofs/Remainders.antt shows that `shared` has the property, and that nothing else has it. Assumes nothing.
+-- `shares` what the coordinates get. proofs/Remainders.antt shows that `shared` has the property, and that nothing else has it. Assumes nothing.
 use Prim.Native.Nat.{ℕ, suc, _<_}
 use mathlib.Core.Path.{_≡_}
 use mathlib.Core.List.{List}
@@ -20,11 +20,11 @@ restAt k ms i = remainder k (sumOf ms) (getD ms i 0)
 abbrev pub Before : (ℕ → ℕ) → ℕ → ℕ → Type 0
 Before rest i j = (rest j < rest i) ⊎ ((rest j ≡ rest i) × (i < j))
 
-pub record IsShared (k : ℕ) (ms ps : List ℕ) : Type 0 where
-  pub as-long : length ps ≡ length ms
+pub record IsShared (k : ℕ) (ms shares : List ℕ) : Type 0 where
+  pub as-long : length shares ≡ length ms
   -- each coordinate has the whole part, or one more
-  pub whole-or-more : (i : ℕ) → i < length ms → (getD ps i 0 ≡ wholeAt k ms i) ⊎ (getD ps i 0 ≡ suc (wholeAt k ms i))
+  pub whole-or-more : (i : ℕ) → i < length ms → (getD shares i 0 ≡ wholeAt k ms i) ⊎ (getD shares i 0 ≡ suc (wholeAt k ms i))
   -- where i has one more and j has not, i comes before j
-  pub largest-first : (i j : ℕ) → i < length ms → j < length ms → getD ps i 0 ≡ suc (wholeAt k ms i) → getD ps j 0 ≡ wholeAt k ms j → Before (restAt k ms) i j
+  pub largest-first : (i j : ℕ) → i < length ms → j < length ms → getD shares i 0 ≡ suc (wholeAt k ms i) → getD shares j 0 ≡ wholeAt k ms j → Before (restAt k ms) i j
   -- until the sum is k
-  pub sums-to : sumOf ps ≡ k
+  pub sums-to : sumOf shares ≡ k

@@ -35,11 +35,11 @@ abbrev pub spent : List ℕ → List ℕ
 spent rests = set rests (largest rests) 0
 
 abbrev pub oneMore : List ℕ → List ℕ → List ℕ
-oneMore rests parts = set parts (largest rests) (suc (getD parts (largest rests) 0))
+oneMore rests shares = set shares (largest rests) (suc (getD shares (largest rests) 0))
 
 unfoldable pub give : ℕ → List ℕ → List ℕ → List ℕ
-give zero rests parts = parts
-give (suc n) rests parts = give n (spent rests) (oneMore rests parts)
+give zero rests shares = shares
+give (suc n) rests shares = give n (spent rests) (oneMore rests shares)
 
 -- the remainders that are then left
 unfoldable pub leftOf : ℕ → List ℕ → List ℕ

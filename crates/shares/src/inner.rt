@@ -4,9 +4,8 @@ ghost use mathlib.Core.List.{map};
 ghost use Prim.Native.Nat.{_+_, _≤_, _<_, _^_};
 ghost use lib.ListN.{length};
 ghost use Rattle.enumeration.specs.Point.{sumOf};
-ghost use Rattle.shares.specs.Shares.{AllUpTo, Sharable};
-ghost use Rattle.shares.specs.Shares as shares;
-ghost use Rattle.shares.specs.Shares.{wholePart, remainder, remainders, unitsLeft, leftOf};
+ghost use Rattle.shares.specs.Shares as sharing;
+ghost use Rattle.shares.specs.Shares.{AllUpTo, Sharable, wholePart, remainder, remainders, unitsLeft, leftOf};
 
 pub fn sum(numbers: &[u32]) -> u32
     requires { ⌜ (length (now numbers) ≤ 16) × AllUpTo (2 ^ 23) (now numbers) ⌝ }
@@ -21,15 +20,15 @@ pub fn sum(numbers: &[u32]) -> u32
     sum
 }
 
-// Of each magnitude in `parts` the whole part of k x a / A, which takes its place, and the remainder.
-fn divide(k: u32, total: u32, parts: &mut [u32], rests: &mut [u32])
-    requires { ⌜ (k ≤ 32) × (0 < total) × AllUpTo (2 ^ 23) (now parts) × (length (now rests) ≡ length (now parts)) ⌝ }
-    ensures { λ _. ⌜ (now (parts .exit) ≡ map (wholePart k total) (now (parts .entry))) × (now (rests .exit) ≡ map (remainder k total) (now (parts .entry))) ⌝ }
+// In the place of each magnitude a the whole part of k x a / A, and in `rests` the remainder.
+fn divide(k: u32, total: u32, magnitudes: &mut [u32], rests: &mut [u32])
+    requires { ⌜ (k ≤ 32) × (0 < total) × AllUpTo (2 ^ 23) (now magnitudes) × (length (now rests) ≡ length (now magnitudes)) ⌝ }
+    ensures { λ _. ⌜ (now (magnitudes .exit) ≡ map (wholePart k total) (now (magnitudes .entry))) × (now (rests .exit) ≡ map (remainder k total) (now (magnitudes .entry))) ⌝ }
 {
     let mut at = 0;
-    while at < parts.len() {
-        let scaled = k * parts[at];
-        parts[at] = scaled / total;
+    while at < magnitudes.len() {
+        let scaled = k * magnitudes[at];
+        magnitudes[at] = scaled / total;
         rests[at] = scaled % total;
         at += 1;
     }
@@ -38,7 +37,7 @@ fn divide(k: u32, total: u32, parts: &mut [u32], rests: &mut [u32])
 // The coordinate with the largest remainder, the first of several.
 fn largest(rests: &[u32]) -> usize
     requires { ⌜ 0 < length (now rests) ⌝ }
-    ensures { λ at. ⌜ (at ≡ shares.largest (now (rests .entry))) × (at < length (now (rests .entry))) ⌝ }
+    ensures { λ at. ⌜ (at ≡ sharing.largest (now (rests .entry))) × (at < length (now (rests .entry))) ⌝ }
 {
     let last = rests.len() - 1;
     let mut at = 0;
@@ -56,26 +55,26 @@ fn largest(rests: &[u32]) -> usize
 }
 
 // One more to each of the largest remainders, which are then spent.
-fn give(units: usize, rests: &mut [u32], parts: &mut [u32])
-    requires { ⌜ (0 < length (now parts)) × (length (now rests) ≡ length (now parts)) × (sumOf (now parts) + units ≤ 32) ⌝ }
-    ensures { λ _. ⌜ (now (parts .exit) ≡ shares.give units (now (rests .entry)) (now (parts .entry))) × (now (rests .exit) ≡ leftOf units (now (rests .entry))) ⌝ }
+fn give(units: usize, rests: &mut [u32], shares: &mut [u32])
+    requires { ⌜ (0 < length (now shares)) × (length (now rests) ≡ length (now shares)) × (sumOf (now shares) + units ≤ 32) ⌝ }
+    ensures { λ _. ⌜ (now (shares .exit) ≡ sharing.give units (now (rests .entry)) (now (shares .entry))) × (now (rests .exit) ≡ leftOf units (now (rests .entry))) ⌝ }
 {
     let mut left = units;
     while 0 < left {
         let at = largest(rests);
         rests[at] = 0;
-        parts[at] += 1;
+        shares[at] += 1;
         left -= 1;
     }
 }
 
 // The magnitudes of the point of a radius above 0, in the place of the magnitudes a, whose sum is `total`; and in `rests` the remainders that got no
 // unit.
-pub fn share(k: usize, total: u32, parts: &mut [u32], rests: &mut [u32])
-    requires { ⌜ Sharable k total (now parts) (now rests) ⌝ }
-    ensures { λ _. ⌜ (now (parts .exit) ≡ shares.shared k (now (parts .entry))) × (now (rests .exit) ≡ leftOf (unitsLeft k (now (parts .entry))) (remainders k (now (parts .entry)))) ⌝ }
+pub fn share(k: usize, total: u32, magnitudes: &mut [u32], rests: &mut [u32])
+    requires { ⌜ Sharable k total (now magnitudes) (now rests) ⌝ }
+    ensures { λ _. ⌜ (now (magnitudes .exit) ≡ sharing.shared k (now (magnitudes .entry))) × (now (rests .exit) ≡ leftOf (unitsLeft k (now (magnitudes .entry))) (remainders k (now (magnitudes .entry)))) ⌝ }
 {
-    divide(k as u32, total, parts, rests);
-    let units = k - sum(parts) as usize;
-    give(units, rests, parts);
+    divide(k as u32, total, magnitudes, rests);
+    let units = k - sum(magnitudes) as usize;
+    give(units, rests, magnitudes);
 }

@@ -4,7 +4,7 @@ use Rattle.counts.specs.Counts.{N, binomial, D, S, B, sumAfter, rangeSize, rang
 use Rattle.counts.specs.Width.{width, bitsFrom}
 use Rattle.enumeration.specs.Product.{patternIndex, shapeOffset, shapeIndex, signIndex, weigh, productIndex}
 use Rattle.enumeration.specs.Reading.{rangeFrom, rangeOf, patternOf, firstMagnitude, shapeLeft, shapeOf, signsOf, pointFrom, pointIn, productPoint}
-use Rattle.floats.specs.Units.{ofPattern, unitsOf, unusable, negative}
+use Rattle.floats.specs.Units.{ofPattern, unitsOf, unusableCoefficient, negative}
 use Rattle.floats.specs.Nearest.{nearestWhole}
 use Rattle.tables.specs.Row.{byteOf, badRadius, badRadii, badRow}
 use Rattle.tables.specs.Table.{placesBefore, rowsBefore}
@@ -16,7 +16,7 @@ use lib.Ieee.{toBits, lt}
 use Rattle.starred.specs.Table.{Table}
 
 pub proved : Table
-unfolding N binomial D S B sumAfter rangeSize rangeStart width bitsFrom patternIndex shapeOffset shapeIndex signIndex weigh productIndex rangeFrom rangeOf patternOf firstMagnitude shapeLeft shapeOf signsOf pointFrom pointIn productPoint byteOf badRadius badRadii badRow placesBefore rowsBefore ofPattern unitsOf unusable negative nearestWhole toBits lt firstBest chosenNumber largest give shared recordOf
+unfolding N binomial D S B sumAfter rangeSize rangeStart width bitsFrom patternIndex shapeOffset shapeIndex signIndex weigh productIndex rangeFrom rangeOf patternOf firstMagnitude shapeLeft shapeOf signsOf pointFrom pointIn productPoint byteOf badRadius badRadii badRow placesBefore rowsBefore ofPattern unitsOf unusableCoefficient negative nearestWhole toBits lt firstBest chosenNumber largest give shared recordOf
 proved =
     record {
       star-index-0 = refl;

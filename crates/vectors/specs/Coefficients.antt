@@ -8,13 +8,13 @@ use lib.Ieee.{Float, nan}
 use lib.ListN.{length, getD}
 use Rattle.answers.specs.Refusals.{meaning}
 use Rattle.answers.specs.Checks.{Check, firstOf, eachFrom}
-use Rattle.floats.specs.Units.{unusable}
+use Rattle.floats.specs.Units.{unusableCoefficient}
 use Rattle.vectors.specs.declared.inner.coefficients.Coefficients.{Coefficients}
 use Rattle.vectors.specs.declared.inner.coefficients.Coefficients.the-variants as coefficients
 
 -- 11: unusable coefficient, with the first coordinate at fault
 abbrev pub coefficientCheck : List Float → ℕ → Check
-coefficientCheck xs i = record { number = 11; values = i ∷ []; fails = unusable (getD xs i nan) }
+coefficientCheck xs i = record { number = 11; values = i ∷ []; fails = unusableCoefficient (getD xs i nan) }
 
 abbrev pub coefficientChecks : List Float → List Check
 coefficientChecks xs = eachFrom (coefficientCheck xs) 0 (length xs)
@@ -29,4 +29,4 @@ coefficientsSay xs = firstOf (coefficientChecks xs) (0 ∷ [])
 
 -- every coefficient is usable
 abbrev pub AllUsable : List Float → Type 0
-AllUsable xs = (i : ℕ) → i < length xs → unusable (getD xs i nan) ≡ false
+AllUsable xs = (i : ℕ) → i < length xs → unusableCoefficient (getD xs i nan) ≡ false

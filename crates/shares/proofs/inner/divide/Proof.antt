@@ -1,22 +1,28 @@
 -- `shares::inner::divide` puts the whole parts and the remainders where they belong, coordinate by coordinate: what is not reached yet is still the magnitude. Assumes nothing.
 use borrow.Author.Needs.{needs}
 use Prim.Native.Nat.{_-_, _*_, _/_, _%_, _^_, _≤_}
-use mathlib.Core.Path.{_≡_, refl, sym, ap, _∙_}
+use mathlib.Core.Path.{_≡_, sym, ap, _∙_}
 use mathlib.Core.List.{map}
 use native.Mathlib.Omega.{arith}
 use native.Mathlib.Nat.{le-trans, le-of-eq, lt-of-le-of-lt, mul-le-mul}
 use lib.Dec.{lit<}
 use lib.ListN.{length, getD, length-set, length-map}
+use Rattle.buffers.specs.Written.{written}
+use Rattle.buffers.proofs.Writing.{fills-map, not-reached, all-written}
 use Rattle.shares.specs.Shares.{wholePart, remainder}
-use Rattle.shares.proofs.Filling.{front, not-reached, fills-map, front-all}
 use Rattle.shares.proofs.inner.divide.Statement.{statement}
 use Rattle.shares.proofs.inner.divide.Tie as tie
 
 abbrev Inv-loop : tie.InvT-loop
-Inv-loop k total parts₀ rests₀ at₀ parts rests at = (at ≤ length parts₀) × (length parts ≡ length parts₀) × (length rests ≡ length parts₀) × (parts ≡ front parts₀ (map (wholePart k total) parts₀) at) × (rests ≡ front rests₀ (map (remainder k total) parts₀) at)
+Inv-loop k total magnitudes₀ rests₀ at₀ magnitudes rests at =
+    (at ≤ length magnitudes₀)
+    × (length magnitudes ≡ length magnitudes₀)
+    × (length rests ≡ length magnitudes₀)
+    × (magnitudes ≡ written magnitudes₀ 0 (map (wholePart k total) magnitudes₀) at)
+    × (rests ≡ written rests₀ 0 (map (remainder k total) magnitudes₀) at)
 
 abbrev μ-loop : tie.MeasureT-loop
-μ-loop k total parts₀ rests₀ at₀ parts rests at = length parts₀ - at
+μ-loop k total magnitudes₀ rests₀ at₀ magnitudes rests at = length magnitudes₀ - at
 
 loop-holds : tie.Need-loop-holds Inv-loop μ-loop
 loop-holds c = search needs
@@ -31,18 +37,19 @@ mul-scaled-2 : tie.Need-mul-scaled-2 Inv-loop μ-loop
 mul-scaled-2 c =
     let a = c .before .before .before in
     let i = c .before .before .loop in
-    let same = not-reached (wholePart (a .args .k) (a .args .total)) (a .args .parts .now) (i .parts) (i .at) 0 (omega arith) (i .inv .3) in
-    let top : getD (i .parts) (i .at) 0 ≤ 2 ^ 23 = le-trans (le-of-eq same) (a .pre .2 (i .at) (omega arith)) in
+    let ms = a .args .magnitudes .now in
+    let same : getD (i .magnitudes) (i .at) 0 ≡ getD ms (i .at) 0 = not-reached ms (map (wholePart (a .args .k) (a .args .total)) ms) 0 (i .at) 0 (omega arith) (i .inv .3) in
+    let top : getD (i .magnitudes) (i .at) 0 ≤ 2 ^ 23 = le-trans (le-of-eq same) (a .pre .2 (i .at) (omega arith)) in
     record { fits = lt-of-le-of-lt (mul-le-mul (a .pre .0) top) (lit< tt) }
 
-div-parts : tie.Need-div-parts Inv-loop μ-loop
-div-parts c = search needs
+div-magnitudes : tie.Need-div-magnitudes Inv-loop μ-loop
+div-magnitudes c = search needs
 
-mul-parts : tie.Need-mul-parts Inv-loop μ-loop
-mul-parts c = search needs
+mul-magnitudes : tie.Need-mul-magnitudes Inv-loop μ-loop
+mul-magnitudes c = search needs
 
-slice-write-parts : tie.Need-slice-write-parts Inv-loop μ-loop
-slice-write-parts c = search needs
+slice-write-magnitudes : tie.Need-slice-write-magnitudes Inv-loop μ-loop
+slice-write-magnitudes c = search needs
 
 rem-rests : tie.Need-rem-rests Inv-loop μ-loop
 rem-rests c = search needs
@@ -63,15 +70,15 @@ loop-again : tie.Need-loop-again Inv-loop μ-loop
 loop-again c =
     let a = c .before .before .before in
     let i = c .before .before .loop in
-    let ms = a .args .parts .now in
+    let ms = a .args .magnitudes .now in
     let k = a .args .k in
     let total = a .args .total in
-    let same = not-reached (wholePart k total) ms (i .parts) (i .at) 0 (omega arith) (i .inv .3) in (
+    let same : getD (i .magnitudes) (i .at) 0 ≡ getD ms (i .at) 0 = not-reached ms (map (wholePart k total) ms) 0 (i .at) 0 (omega arith) (i .inv .3) in (
       omega arith,
-      length-set (i .parts) (i .at) (k * getD (i .parts) (i .at) 0 / total) ∙ i .inv .1,
-      length-set (i .rests) (i .at) (k * getD (i .parts) (i .at) 0 % total) ∙ i .inv .2,
-      fills-map (wholePart k total) ms ms (i .parts) (i .at) 0 (k * getD (i .parts) (i .at) 0 / total) (omega arith) refl (i .inv .3) (ap (wholePart k total) same),
-      fills-map (remainder k total) ms (a .args .rests .now) (i .rests) (i .at) 0 (k * getD (i .parts) (i .at) 0 % total) (omega (arith, a .pre .3)) (sym (a .pre .3)) (i .inv .4) (ap (remainder k total) same),
+      length-set (i .magnitudes) (i .at) (k * getD (i .magnitudes) (i .at) 0 / total) ∙ i .inv .1,
+      length-set (i .rests) (i .at) (k * getD (i .magnitudes) (i .at) 0 % total) ∙ i .inv .2,
+      fills-map (wholePart k total) ms ms 0 (i .at) 0 (omega arith) (omega arith) (ap (wholePart k total) same) (i .inv .3),
+      fills-map (remainder k total) ms (a .args .rests .now) 0 (i .at) 0 (omega arith) (omega arith) (ap (remainder k total) same) (i .inv .4),
     )
 
 same-length : tie.Need-same-length Inv-loop μ-loop
@@ -84,11 +91,11 @@ returns : tie.Need-returns Inv-loop μ-loop
 returns c =
     let a = c .before .before in
     let i = c .before .loop in
-    let ms = a .args .parts .now in
+    let ms = a .args .magnitudes .now in
     let k = a .args .k in
     let total = a .args .total in (
-      i .inv .3 ∙ front-all ms (map (wholePart k total) ms) (i .at) (omega arith) (length-map ms (wholePart k total)),
-      i .inv .4 ∙ front-all (a .args .rests .now) (map (remainder k total) ms) (i .at) (omega arith) (length-map ms (remainder k total) ∙ sym (a .pre .3)),
+      i .inv .3 ∙ all-written ms (map (wholePart k total) ms) (i .at) (omega arith) (length-map ms (wholePart k total)),
+      i .inv .4 ∙ all-written (a .args .rests .now) (map (remainder k total) ms) (i .at) (omega arith) (length-map ms (remainder k total) ∙ sym (a .pre .3)),
     )
 
 pub divide-spec : {M : Type 1} → statement M
@@ -101,9 +108,9 @@ divide-spec =
     mul-scaled
     slice-read-scaled
     mul-scaled-2
-    div-parts
-    mul-parts
-    slice-write-parts
+    div-magnitudes
+    mul-magnitudes
+    slice-write-magnitudes
     rem-rests
     mul-rests
     slice-write-rests

@@ -12,15 +12,15 @@ use Rattle.shares.proofs.inner.give.Statement.{statement}
 use Rattle.shares.proofs.inner.give.Tie as tie
 
 abbrev Inv-loop : tie.InvT-loop
-Inv-loop units rests₀ parts₀ left₀ rests parts left =
-    (length rests ≡ length parts₀)
-    × (length parts ≡ length parts₀)
-    × (sumOf parts + left ≤ 32)
-    × (give left rests parts ≡ give units rests₀ parts₀)
+Inv-loop units rests₀ shares₀ left₀ rests shares left =
+    (length rests ≡ length shares₀)
+    × (length shares ≡ length shares₀)
+    × (sumOf shares + left ≤ 32)
+    × (give left rests shares ≡ give units rests₀ shares₀)
     × (leftOf left rests ≡ leftOf units rests₀)
 
 abbrev μ-loop : tie.MeasureT-loop
-μ-loop units rests₀ parts₀ left₀ rests parts left = left
+μ-loop units rests₀ shares₀ left₀ rests shares left = left
 
 loop-holds : tie.Need-loop-holds Inv-loop μ-loop
 loop-holds c = search needs
@@ -34,19 +34,19 @@ mul-rests c = search needs
 slice-write-rests : tie.Need-slice-write-rests Inv-loop μ-loop
 slice-write-rests c = search needs
 
-mul-parts : tie.Need-mul-parts Inv-loop μ-loop
-mul-parts c = search needs
+mul-shares : tie.Need-mul-shares Inv-loop μ-loop
+mul-shares c = search needs
 
-slice-read-parts : tie.Need-slice-read-parts Inv-loop μ-loop
-slice-read-parts c = search needs
+slice-read-shares : tie.Need-slice-read-shares Inv-loop μ-loop
+slice-read-shares c = search needs
 
-add-parts : tie.Need-add-parts Inv-loop μ-loop
-add-parts c =
+add-shares : tie.Need-add-shares Inv-loop μ-loop
+add-shares c =
     let i = c .before .before .before .before .loop in
-    record { fits = omega (arith, none-above-sum (i .parts) (c .before .largest .result), i .inv .2) }
+    record { fits = omega (arith, none-above-sum (i .shares) (c .before .largest .result), i .inv .2) }
 
-slice-write-parts : tie.Need-slice-write-parts Inv-loop μ-loop
-slice-write-parts c = search needs
+slice-write-shares : tie.Need-slice-write-shares Inv-loop μ-loop
+slice-write-shares c = search needs
 
 sub-left : tie.Need-sub-left Inv-loop μ-loop
 sub-left c = search needs
@@ -58,11 +58,11 @@ loop-again : tie.Need-loop-again Inv-loop μ-loop
 loop-again c =
     let i = c .before .before .before .before .loop in
     let at = c .before .largest .result in
-    let below : at < length (i .parts) = omega (arith, c .before .largest .ensures .1, i .inv .0, i .inv .1) in (
+    let below : at < length (i .shares) = omega (arith, c .before .largest .ensures .1, i .inv .0, i .inv .1) in (
       length-set (i .rests) at 0 ∙ i .inv .0,
-      length-set (i .parts) at (getD (i .parts) at 0 + 1) ∙ i .inv .1,
-      omega (arith, grows (i .parts) at below, i .inv .2),
-      gives (i .left) (i .rests) (i .parts) at (omega arith) (c .before .largest .ensures .0) ∙ i .inv .3,
+      length-set (i .shares) at (getD (i .shares) at 0 + 1) ∙ i .inv .1,
+      omega (arith, grows (i .shares) at below, i .inv .2),
+      gives (i .left) (i .rests) (i .shares) at (omega arith) (c .before .largest .ensures .0) ∙ i .inv .3,
       spends (i .left) (i .rests) at (omega arith) (c .before .largest .ensures .0) ∙ i .inv .4,
     )
 
@@ -89,10 +89,10 @@ give-spec =
     largest-requires
     mul-rests
     slice-write-rests
-    mul-parts
-    slice-read-parts
-    add-parts
-    slice-write-parts
+    mul-shares
+    slice-read-shares
+    add-shares
+    slice-write-shares
     sub-left
     loop-less
     loop-again

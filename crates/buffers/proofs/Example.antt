@@ -1,0 +1,14 @@
+-- Every line of the example holds by computation. Assumes nothing.
+use mathlib.Core.Path.{refl}
+use lib.Dec.{lit≤}
+use Rattle.buffers.specs.Example.{Example}
+
+pub example : Example
+example = record {
+  none = refl;
+  one = refl;
+  both = refl;
+  from-0 = refl;
+  whole = refl;
+  two-of-three = record { ends = refl; made = refl; to = lit≤ tt };
+}
