@@ -1,2 +1,3 @@
 pub mod Example
 pub mod Writing
+pub mod Reading

@@ -49,7 +49,7 @@ module _ (t : List ℕ) (p : ℕ) (xs : List Float) (good : Good t) (h : p < pla
       record-holds p (rowOf t p) (numberFor t (rowOf t p) xs) codeword (record {
         place-fits = omega (arith, h, good-total t good (rowsOf t) (le-refl (rowsOf t)));
         row-fits = omega (arith, good-place t p good h .0, right-size t good .rows-to);
-        number-fits = omega (arith, number-in, row-good .radii-to);
+        radius-number-fits = omega (arith, number-in, row-good .radii-to);
         codeword-fits = lt-of-lt-of-le below (shell-usable .points-to);
       })
 

@@ -5,4 +5,4 @@ use Rattle.records.specs.Example.{Example}
 
 pub example : Example
 unfolding recordOf
-example = record { written = refl; place = refl; row = refl; number = refl; codeword = refl; short = refl; right = refl; long = refl }
+example = record { written = refl; place = refl; row = refl; number = refl; codeword = refl; short = refl; right = refl; long = refl; same = refl; first-differs = refl; last-differs = refl; cut = refl }

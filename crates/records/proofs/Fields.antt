@@ -8,6 +8,6 @@ unfolding recordOf
 record-holds place row number codeword f = record {
   holds-place = fits-back 2 place (f .place-fits);
   holds-row = fits-back 1 row (f .row-fits);
-  holds-radius-number = fits-back 1 number (f .number-fits);
+  holds-radius-number = fits-back 1 number (f .radius-number-fits);
   holds-codeword = fits-back 4 codeword (f .codeword-fits);
 }

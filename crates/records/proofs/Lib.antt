@@ -1,3 +1,4 @@
 pub mod Bytes
 pub mod Example
 pub mod Fields
+pub mod Same

@@ -2,9 +2,10 @@
 -- proofs/Example.antt computes every line. Assumes nothing.
 use Prim.Native.Nat.{ℕ}
 use mathlib.Core.Path.{_≡_}
-use mathlib.Core.List.{List, [], _∷_}
+use mathlib.Core.List.{List, [], _∷_, _++_}
 use mathlib.Core.Bool.{true, false}
-use Rattle.records.specs.Record.{recordOf, placeIn, rowIn, radiusNumberIn, codewordIn, wrongRecord}
+use lib.ListN.{take, drop}
+use Rattle.records.specs.Record.{recordOf, placeIn, rowIn, radiusNumberIn, codewordIn, recordCheck, sameBytes}
 
 abbrev pub bytes : List ℕ
 bytes = 1 ∷ 2 ∷ 3 ∷ 4 ∷ 5 ∷ 6 ∷ 7 ∷ 8 ∷ []
@@ -17,6 +18,11 @@ pub record Example : Type 0 where
   pub number : radiusNumberIn bytes ≡ 4
   pub codeword : codewordIn bytes ≡ 84281096
   -- 7 and 9 bytes are no record
-  pub short : wrongRecord 7 ≡ true
-  pub right : wrongRecord 8 ≡ false
-  pub long : wrongRecord 9 ≡ true
+  pub short : recordCheck 7 .fails ≡ true
+  pub right : recordCheck 8 .fails ≡ false
+  pub long : recordCheck 9 .fails ≡ true
+  -- all bytes are compared, the first and the last among them
+  pub same : sameBytes bytes bytes ≡ true
+  pub first-differs : sameBytes bytes (0 ∷ drop 1 bytes) ≡ false
+  pub last-differs : sameBytes bytes (take 7 bytes ++ 0 ∷ []) ≡ false
+  pub cut : sameBytes bytes (take 7 bytes) ≡ false

@@ -2,10 +2,11 @@
 -- first. Assumes nothing.
 use Prim.Native.Nat.{ℕ, _^_, _<_}
 use mathlib.Core.Path.{_≡_}
-use mathlib.Core.List.{List, _++_}
-use mathlib.Core.Bool.{Bool}
+use mathlib.Core.List.{List, [], _∷_, _++_}
+use mathlib.Core.Bool.{Bool, true, false, _&&_}
+use lib.Dec.{eqb}
 use lib.ListN.{take, drop}
-use Rattle.answers.specs.Checks.{wrongLength}
+use Rattle.answers.specs.Checks.{Check, lengthCheck}
 use Rattle.octets.specs.Octets.{highFirst, fromHigh}
 
 -- so many bytes a record
@@ -13,11 +14,11 @@ abbrev pub recordLength : ℕ
 recordLength = 8
 
 -- 4: record not 8; it has b bytes
-abbrev pub wrongRecord : ℕ → Bool
-wrongRecord b = wrongLength b recordLength
+abbrev pub recordCheck : ℕ → Check
+recordCheck b = lengthCheck b recordLength
 
 unfoldable pub recordOf : ℕ → ℕ → ℕ → ℕ → List ℕ
-recordOf place row number codeword = highFirst 2 place ++ highFirst 1 row ++ highFirst 1 number ++ highFirst 4 codeword
+recordOf place row radiusNumber codeword = highFirst 2 place ++ highFirst 1 row ++ highFirst 1 radiusNumber ++ highFirst 4 codeword
 
 abbrev pub placeIn : List ℕ → ℕ
 placeIn bytes = fromHigh (take 2 bytes)
@@ -31,16 +32,23 @@ radiusNumberIn bytes = fromHigh (take 1 (drop 3 bytes))
 abbrev pub codewordIn : List ℕ → ℕ
 codewordIn bytes = fromHigh (take 4 (drop 4 bytes))
 
+-- the same bytes
+abbrev pub sameBytes : List ℕ → List ℕ → Bool
+sameBytes [] [] = true
+sameBytes [] (y ∷ ys) = false
+sameBytes (x ∷ xs) [] = false
+sameBytes (x ∷ xs) (y ∷ ys) = eqb x y && sameBytes xs ys
+
 -- what a record holds are these four fields
-pub record Holds (bytes : List ℕ) (place row number codeword : ℕ) : Type 0 where
+pub record Holds (bytes : List ℕ) (place row radiusNumber codeword : ℕ) : Type 0 where
   pub holds-place : placeIn bytes ≡ place
   pub holds-row : rowIn bytes ≡ row
-  pub holds-radius-number : radiusNumberIn bytes ≡ number
+  pub holds-radius-number : radiusNumberIn bytes ≡ radiusNumber
   pub holds-codeword : codewordIn bytes ≡ codeword
 
 -- fields that fit their bytes, so that nothing is cut
-pub record Fits (place row number codeword : ℕ) : Type 0 where
+pub record Fits (place row radiusNumber codeword : ℕ) : Type 0 where
   pub place-fits : place < 65536
   pub row-fits : row < 256
-  pub number-fits : number < 256
+  pub radius-number-fits : radiusNumber < 256
   pub codeword-fits : codeword < 2 ^ 32

@@ -2,7 +2,29 @@
 ghost use mathlib.Core.Path.{_≡_};
 ghost use Prim.Native.Nat.{_%_, _^_, _<_};
 ghost use lib.ListN.{length, getD};
-ghost use Rattle.records.specs.Record.{recordLength, recordOf, placeIn, rowIn, radiusNumberIn, codewordIn};
+ghost use Rattle.records.specs.Record.{recordLength, recordCheck, sameBytes, recordOf, placeIn, rowIn, radiusNumberIn, codewordIn};
+
+// Whether so many bytes are no record.
+pub fn wrong_record(bytes: usize) -> bool
+    ensures { λ b. ⌜ b ≡ recordCheck bytes .fails ⌝ }
+{
+    bytes != 8
+}
+
+// Whether the bytes are the same.
+pub fn same(a: &[u8], b: &[u8]) -> bool
+    requires { ⌜ length (now a) ≡ length (now b) ⌝ }
+    ensures { λ r. ⌜ r ≡ sameBytes (now (a .entry)) (now (b .entry)) ⌝ }
+{
+    let mut at = 0;
+    while at < a.len() {
+        if a[at] != b[at] {
+            return false;
+        }
+        at += 1;
+    }
+    true
+}
 
 // The low byte of a number.
 fn low_byte(n: u64) -> u8
@@ -11,6 +33,7 @@ fn low_byte(n: u64) -> u8
     (n % 256) as u8
 }
 
+// The place, the row, the radius number and the codeword.
 pub fn write(place: u64, row: u64, number: u64, codeword: u64, out: &mut [u8])
     requires { ⌜ length (now out) ≡ recordLength ⌝ }
     ensures { λ _. ⌜ now (out .exit) ≡ recordOf place row number codeword ⌝ }

@@ -9,5 +9,5 @@ use Rattle.records.proofs.inner.radius_number_in.Tie as tie
 returns : tie.Need-returns
 returns c = (c .byte .ensures .0 ∙ sym (one-byte (c .before .before .args .bytes .now) 3 (omega arith)), c .byte .ensures .1)
 
-pub number-in-spec : {M : Type 1} → statement M
-number-in-spec = tie.close (tie.spec (λ c κs. search needs) returns)
+pub radius-number-in-spec : {M : Type 1} → statement M
+radius-number-in-spec = tie.close (tie.spec (λ c κs. search needs) returns)

@@ -1,13 +1,13 @@
--- `cells::inner::rule::same` compares the bytes one by one; what is left decides as long as they are the same. Assumes nothing.
+-- `records::inner::same` compares the bytes one by one; what is left decides as long as they are the same. Assumes nothing.
 use Prim.Native.Nat.{_-_, _≤_}
 use mathlib.Core.Path.{_≡_, _∙_}
 use native.Mathlib.Omega.{arith}
 use lib.ListN.{length, drop}
 use borrow.Author.Needs.{needs}
-use Rattle.rules.specs.Cell.{sameBytes}
-use Rattle.cells.proofs.Bytes.{same-next, same-stops, same-ends}
-use Rattle.cells.proofs.inner.rule.same.Statement.{statement}
-use Rattle.cells.proofs.inner.rule.same.Tie as tie
+use Rattle.records.specs.Record.{sameBytes}
+use Rattle.records.proofs.Same.{same-next, same-stops, same-ends}
+use Rattle.records.proofs.inner.same.Statement.{statement}
+use Rattle.records.proofs.inner.same.Tie as tie
 
 abbrev Inv-loop : tie.InvT-loop
 Inv-loop a b at₀ at = (at ≤ length a) × (sameBytes (drop at a) (drop at b) ≡ sameBytes a b)
