@@ -99,7 +99,7 @@ pub fn range_size(s: usize, length: Length, radius: Radius) -> u64
 
 // The start O(s) of the range for s: the sizes of the ranges for s+1 to m, which come before it.
 pub fn range_start(s: usize, length: Length, radius: Radius) -> u64
-    requires { ⌜ IsUsable (length .0) (radius .0) ⌝ }
+    requires { ⌜ IsUsable (length .0) (radius .0) (N (length .0) (radius .0)) ⌝ }
     ensures { λ r. ⌜ r ≡ O s (length .0) (radius .0) ⌝ }
 {
     let mut i = most_nonzero(length, radius);
@@ -121,7 +121,7 @@ pub fn total(length: Length, radius: Radius, end: u64) -> u64
 
 // N(l,k) by its ranges (eq. 14).
 pub fn point_count(length: Length, radius: Radius) -> u64
-    requires { ⌜ IsUsable (length .0) (radius .0) ⌝ }
+    requires { ⌜ IsUsable (length .0) (radius .0) (N (length .0) (radius .0)) ⌝ }
     ensures { λ r. ⌜ r ≡ N (length .0) (radius .0) ⌝ }
 {
     total(length, radius, range_start(0, length, radius))
