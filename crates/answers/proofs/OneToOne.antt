@@ -6,7 +6,9 @@ use mathlib.Core.List.{List, [], _∷_}
 use lib.ListN.{getD}
 use Rattle.answers.specs.declared.Refusal.{Refusal}
 use Rattle.answers.specs.declared.Refusal.the-variants as refusal
-use Rattle.answers.specs.Refusals.{meaning}
+use Rattle.answers.specs.declared.Verdict.{Verdict}
+use Rattle.answers.specs.declared.Verdict.the-variants as verdict
+use Rattle.answers.specs.Refusals.{meaning, verdictMeaning}
 
 -- 12 names a place or none
 cellOf : List ℕ → Refusal
@@ -77,3 +79,14 @@ answerOf values refused (suc n ∷ vs) = refused (refusalOf (suc n ∷ vs))
 pub answer-refused : {A : Type 0} (values : List ℕ → A) (refused : Refusal → A) (r : Refusal) → answerOf values refused (meaning r) ≡ refused r
 unfolding answerOf
 answer-refused values refused r = ap (answerOf values refused) (said r .says) ∙ ap refused (said r .back)
+
+verdictOf : List ℕ → Verdict
+verdictOf vs = answerOf (λ n. verdict.Passed) verdict.Refused vs
+
+verdict-back : (a : Verdict) → verdictOf (verdictMeaning a) ≡ a
+unfolding verdictOf answerOf
+verdict-back verdict.Passed = refl
+verdict-back (verdict.Refused r) = answer-refused (λ n. verdict.Passed) verdict.Refused r
+
+pub verdict-one-to-one : (a b : Verdict) → verdictMeaning a ≡ verdictMeaning b → a ≡ b
+verdict-one-to-one = one-to-one verdictMeaning verdictOf verdict-back

@@ -19,7 +19,7 @@ use Rattle.enumeration.proofs.Shapes.{S-start}
 use Rattle.enumeration.proofs.Steps.{nonzeros-grow, pattern-grows, sign-grows}
 use Rattle.ranges.proofs.Sizes.{D-small-enough, S-small-enough, B-small-enough}
 use Rattle.product.specs.declared.inner.weigh.Weight.{Weight}
-use Rattle.product.specs.Weights.{shapesAfter, nothing, weightOf, grown, Room}
+use Rattle.product.specs.Weights.{shapesAfter, nothing, weightOf, extended, Room}
 use Rattle.product.proofs.After.{shape-and-after, after-grows}
 
 -- no nonzero coordinates sum to nothing
@@ -80,7 +80,7 @@ zero-weight y = same-weight refl (zero-add (radiusOf y)) refl refl refl
 
 -- a nonzero coordinate in front of y
 pub grows : (z : ℤ) (y : List ℤ) → isNonzero z ≡ true → length (z ∷ y) ≤ 16 → radiusOf (z ∷ y) ≤ 32
-    → Room (weightOf y) (natAbs z) (isNegative z) (length y) × (grown (weightOf y) (natAbs z) (isNegative z) (length y) ≡ weightOf (z ∷ y))
+    → Room (weightOf y) (natAbs z) (isNegative z) (length y) × (extended (weightOf y) (natAbs z) (isNegative z) (length y) ≡ weightOf (z ∷ y))
 grows z y n l k =
     let all = small (z ∷ y) l k in
     let one = add-one (nonzerosIn y) in
@@ -116,7 +116,7 @@ module _ (behind : Weight) (x : List ℤ) (at : ℕ) (p : Added behind x at) whe
   -- with the magnitude i and the sign that the code has found of the coordinate
   pub with-nonzero : (i : ℕ) (negative : Bool) → isNonzero (getD x at (pos 0)) ≡ true → i ≡ natAbs (getD x at (pos 0))
       → negative ≡ isNegative (getD x at (pos 0))
-      → Room behind i negative (length x - at - 1) × (grown behind i negative (length x - at - 1) ≡ weightOf (drop at x))
+      → Room behind i negative (length x - at - 1) × (extended behind i negative (length x - at - 1) ≡ weightOf (drop at x))
   with-nonzero i negative n e f =
       let z = getD x at (pos 0) in
       let y = drop (suc at) x in

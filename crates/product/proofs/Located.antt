@@ -1,4 +1,4 @@
--- The parts of the point of an index, from the index's position in its range: below their counts, so that the point can be written from them.
+-- The components of the point of an index, from the index's position in its range: below their counts, so that the point can be written from them.
 -- Assumes nothing.
 use Prim.Native.Nat.{ℕ, zero, suc, _-_, _/_, _%_, _^_, _≤_, _<_}
 use mathlib.Core.Path.{_≡_, refl, ap, _∙_}
@@ -11,7 +11,7 @@ use Rattle.enumeration.specs.Reading.{pointIn, productPoint}
 use Rattle.enumeration.proofs.RangeOf.{range-holds}
 use Rattle.enumeration.proofs.Product.{S-positive, pattern-in, shape-in}
 use Rattle.enumeration.proofs.Shapes.{S-start}
-use Rattle.product.specs.Parts.{IsIndexOf, Writable, writtenFrom}
+use Rattle.product.specs.Components.{IsIndexOf, MakesPoint, writtenFrom}
 
 module _ (l k n s start : ℕ) (p : IsIndexOf l k n s start) where
   pub start-to : start ≤ n
@@ -31,13 +31,13 @@ module _ (l k n s start : ℕ) (p : IsIndexOf l k n s start) where
   pub shapes-from : 0 < S s k
   shapes-from = S-positive s l k (n - start) within-below
 
-  -- the parts, with the shape count d that the code has found
-  pub parts-there : (d : ℕ) → d ≡ S s k
-      → Writable (record { s = s; k = k; pattern = (n - start) / 2 ^ s / d; shape = (n - start) / 2 ^ s % d; sign = n - start }) l
+  -- the components, with the shape count d that the code has found
+  pub components-there : (d : ℕ) → d ≡ S s k
+      → MakesPoint (record { s = s; k = k; pattern = (n - start) / 2 ^ s / d; shape = (n - start) / 2 ^ s % d; sign = n - start }) l
       × (productPoint l k n
       ≡ writtenFrom (record { s = s; k = k; pattern = (n - start) / 2 ^ s / d; shape = (n - start) / 2 ^ s % d; sign = n - start }) l)
   unfolding productPoint pointIn B
-  parts-there d e =
+  components-there d e =
       rw (e, ← p .range-s, ← p .range-start) (
         record {
           length-to = p .usable .length-to;
@@ -49,12 +49,12 @@ module _ (l k n s start : ℕ) (p : IsIndexOf l k n s start) where
       )
 
   -- at radius 0 there is one pattern, and one shape of no magnitudes
-  pub no-parts : s ≡ 0
-      → Writable (record { s = s; k = k; pattern = 0; shape = 0; sign = n - start }) l
+  pub no-components : s ≡ 0
+      → MakesPoint (record { s = s; k = k; pattern = 0; shape = 0; sign = n - start }) l
       × (productPoint l k n ≡ writtenFrom (record { s = s; k = k; pattern = 0; shape = 0; sign = n - start }) l)
-  no-parts e =
+  no-components e =
       let w = (n - start) / 2 ^ s in
-      let there = parts-there (S s k) refl in
+      let there = components-there (S s k) refl in
       let one-pattern : D s l ≡ 1 = ap (λ (t : ℕ). D t l) e ∙ D-zero l in
       let pattern : w / S s k ≡ 0 = omega (arith, there .0 .pattern-below) in
       let shape : w % S s k ≡ 0 = omega (arith, there .0 .shape-below, one-shape) in

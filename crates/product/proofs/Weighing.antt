@@ -6,7 +6,7 @@ use mathlib.Core.List.{List}
 use native.Mathlib.Omega.{arith}
 use native.Mathlib.Nat.{mul-le-mul-left, mul-one}
 use lib.IntN.{ℤ}
-use Rattle.counts.specs.Counts.{S, B}
+use Rattle.counts.specs.Counts.{N, S, B}
 use Rattle.counts.proofs.Pascal.{S-none}
 use Rattle.enumeration.specs.Point.{OnShell, radiusOf, nonzerosIn, shapeIn}
 use Rattle.enumeration.specs.Product.{shapeIndex, weigh, productIndex}
@@ -47,7 +47,7 @@ block-within l k w = omega (arith, no-less (w .pattern * S (w .s) k + (S (w .s) 
 after-below : (l k : ℕ) (x : List ℤ) → OnShell l k x → shapesAfter (shapeIn x) < S (nonzerosIn x) k
 after-below l k x on = rw (← on .of-radius) (omega (arith, shape-and-after x))
 
-pub weighable : (l k : ℕ) (x : List ℤ) → IsUsable l k → OnShell l k x → Weighable l k (weightOf x) × (weighed l k (weightOf x) ≡ productIndex x)
+pub weighable : (l k : ℕ) (x : List ℤ) → IsUsable l k (N l k) → OnShell l k x → Weighable l k (weightOf x) × (weighed l k (weightOf x) ≡ productIndex x)
 unfolding weigh
 weighable l k x u on =
     let most-s = nonzeros-part x in

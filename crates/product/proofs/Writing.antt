@@ -1,4 +1,4 @@
--- One coordinate of a point that is written from its parts: zero, or the next of the shape; and what is left can be written from again.
+-- One coordinate of a point that is written from its components: zero, or the next of the shape; and what is left can be written from again.
 -- Assumes nothing.
 use Prim.Native.Nat.{ℕ, suc, _+_, _-_, _≤_, _<_}
 use mathlib.Core.Path.{_≡_, sym, ap, _∙_}
@@ -15,16 +15,16 @@ use Rattle.enumeration.specs.Reading.{bit, firstMagnitude, shapeLeft}
 use Rattle.enumeration.proofs.Patterns.{pattern-at-least, pattern-left}
 use Rattle.enumeration.proofs.Shapes.{first-read}
 use Rattle.enumeration.proofs.Steps.{write-none, write-zero, write-nonzero}
-use Rattle.product.specs.declared.inner.parts.Parts.{Parts}
+use Rattle.product.specs.declared.inner.components.Components.{Components}
 use Rattle.product.specs.declared.inner.read.Step.{Step}
-use Rattle.product.specs.Parts.{Writable, writtenFrom}
+use Rattle.product.specs.Components.{MakesPoint, writtenFrom}
 use Rattle.product.specs.Steps.{Nonzero, taken}
 
-module _ (q : Parts) (behind : ℕ) (w : Writable q (suc behind)) where
+module _ (q : Components) (behind : ℕ) (w : MakesPoint q (suc behind)) where
   pub s-to : q .s ≤ suc behind
   s-to = pattern-at-least (q .s) (suc behind) (q .pattern) (w .pattern-below)
 
-  pub zero-next : q .pattern < D (q .s) behind → Writable q behind × (writtenFrom q (suc behind) ≡ pos 0 ∷ writtenFrom q behind)
+  pub zero-next : q .pattern < D (q .s) behind → MakesPoint q behind × (writtenFrom q (suc behind) ≡ pos 0 ∷ writtenFrom q behind)
   zero-next h = (
     record { length-to = omega (arith, w .length-to); radius-to = w .radius-to; pattern-below = h; shape-below = w .shape-below },
     write-zero (q .s) behind (q .k) (q .pattern) (q .shape) (q .sign) h,
@@ -46,7 +46,7 @@ module _ (q : Parts) (behind : ℕ) (w : Writable q (suc behind)) where
           shape-below = rw same (w .shape-below);
         }
 
-    pub nonzero-next : Writable (taken q d .left) behind × (writtenFrom q (suc behind) ≡ taken q d .c ∷ writtenFrom (taken q d .left) behind)
+    pub nonzero-next : MakesPoint (taken q d .left) behind × (writtenFrom q (suc behind) ≡ taken q d .c ∷ writtenFrom (taken q d .left) behind)
     nonzero-next =
         let same : suc (q .s - 1) ≡ q .s = omega (arith, left .0) in
         let first = first-read (q .s - 1) (q .k) (q .shape) (nonzero-there .shape-below) in (
@@ -60,7 +60,7 @@ module _ (q : Parts) (behind : ℕ) (w : Writable q (suc behind)) where
         )
 
 -- what the code has taken
-pub taken-is : (q : Parts) (d i left : ℕ) (c : ℤ) → i ≡ firstMagnitude (q .s - 1) (q .k) (q .shape) → left ≡ shapeLeft (q .s - 1) (q .k) (q .shape)
+pub taken-is : (q : Components) (d i left : ℕ) (c : ℤ) → i ≡ firstMagnitude (q .s - 1) (q .k) (q .shape) → left ≡ shapeLeft (q .s - 1) (q .k) (q .shape)
     → c ≡ signed (eqb (bit (q .s - 1) (q .sign)) 1) i
     → _≡_ {A = Step}
     (record { c = c; left = record { s = q .s - 1; k = q .k - i; pattern = q .pattern - d; shape = left; sign = q .sign } })
@@ -68,10 +68,10 @@ pub taken-is : (q : Parts) (d i left : ℕ) (c : ℤ) → i ≡ firstMagnitude (
 taken-is q d i left c e f g = rw (g, e, f)
 
 -- one more coordinate stands in the buffer
-pub write-one : (whole out : List ℤ) (at : ℕ) (q r : Parts) (z z′ : ℤ) → at < length out → z′ ≡ z
-    → Writable r (length out - at - 1) × (writtenFrom q (suc (length out - at - 1)) ≡ z ∷ writtenFrom r (length out - at - 1))
+pub write-one : (whole out : List ℤ) (at : ℕ) (q r : Components) (z z′ : ℤ) → at < length out → z′ ≡ z
+    → MakesPoint r (length out - at - 1) × (writtenFrom q (suc (length out - at - 1)) ≡ z ∷ writtenFrom r (length out - at - 1))
     → whole ≡ take at out ++ writtenFrom q (length out - at)
-    → Writable r (length (set out at z′) - (at + 1)) × (whole ≡ take (at + 1) (set out at z′) ++ writtenFrom r (length (set out at z′) - (at + 1)))
+    → MakesPoint r (length (set out at z′) - (at + 1)) × (whole ≡ take (at + 1) (set out at z′) ++ writtenFrom r (length (set out at z′) - (at + 1)))
 write-one whole out at q r z z′ h e next inv =
     let left : length (set out at z′) - (at + 1) ≡ length out - at - 1 = omega (arith, length-set out at z′) in
     let one : suc (length out - at - 1) ≡ length out - at = omega arith in
@@ -82,7 +82,7 @@ write-one whole out at q r z z′ h e next inv =
     )
 
 -- all stand there
-pub write-all : (whole out : List ℤ) (at : ℕ) (q : Parts) → length out ≤ at → whole ≡ take at out ++ writtenFrom q (length out - at) → out ≡ whole
+pub write-all : (whole out : List ℤ) (at : ℕ) (q : Components) → length out ≤ at → whole ≡ take at out ++ writtenFrom q (length out - at) → out ≡ whole
 write-all whole out at q h inv =
     let none : length out - at ≡ 0 = omega arith in
     sym (inv ∙ rw (none, write-none (q .s) 0 (q .k) (q .pattern) (q .shape) (q .sign), append-nil) (take-all at out h))

@@ -1,3 +1,3 @@
-pub mod Parts
+pub mod Components
 pub mod Steps
 pub mod Weights

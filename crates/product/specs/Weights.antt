@@ -33,8 +33,8 @@ abbrev pub nothing : Weight
 nothing = record { s = 0; k = 0; pattern = 0; after = 0; sign = 0 }
 
 -- a weight with a nonzero coordinate in front, of magnitude i and this sign, where `left` coordinates stand after it
-abbrev pub grown : Weight → ℕ → Bool → ℕ → Weight
-grown behind i negative left =
+abbrev pub extended : Weight → ℕ → Bool → ℕ → Weight
+extended behind i negative left =
     record {
       s = behind .s + 1;
       k = i + behind .k;

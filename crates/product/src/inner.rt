@@ -1,6 +1,5 @@
 // What the product enumeration is made of. These are no calls: what they require, each caller is proved to meet.
-pub mod coordinate;
-pub mod parts;
+pub mod components;
 pub mod range;
 pub mod read;
 pub mod weigh;

@@ -1,14 +1,12 @@
--- Two answers that the contract of count, or of the check of a shell, allows are equal. Assumes nothing.
+-- Two answers that the contract of count allows are equal. Assumes nothing.
 use mathlib.Core.Path.{_≡_, refl}
 use mathlib.Core.List.{List}
 use Prim.Native.Nat.{ℕ}
 use lib.ListN.{getD}
 use Rattle.answers.proofs.OneToOne.{one-to-one, answerOf, answer-refused}
-use Rattle.shell.specs.declared.Shell.{Shell}
-use Rattle.shell.specs.declared.Shell.the-variants.{Usable, Unusable}
 use Rattle.shell.specs.declared.Counted.{Counted}
 use Rattle.shell.specs.declared.Counted.the-variants.{Points, Refused}
-use Rattle.shell.specs.Shell.{shellMeaning, countMeaning}
+use Rattle.shell.specs.Shell.{countMeaning}
 
 counted : List ℕ → Counted
 counted vs = answerOf (λ n. Points (getD n 0 0)) Refused vs
@@ -20,14 +18,3 @@ counted-back (Refused r) = answer-refused (λ n. Points (getD n 0 0)) Refused r
 
 pub count-one-to-one : (a b : Counted) → countMeaning a ≡ countMeaning b → a ≡ b
 count-one-to-one = one-to-one countMeaning counted counted-back
-
-checked : List ℕ → Shell
-checked vs = answerOf (λ n. Usable) Unusable vs
-
-checked-back : (a : Shell) → checked (shellMeaning a) ≡ a
-unfolding checked answerOf
-checked-back Usable = refl
-checked-back (Unusable r) = answer-refused (λ n. Usable) Unusable r
-
-pub check-one-to-one : (a b : Shell) → shellMeaning a ≡ shellMeaning b → a ≡ b
-check-one-to-one = one-to-one shellMeaning checked checked-back

@@ -6,15 +6,8 @@ use Rattle.answers.specs.Refusals.{meaning}
 use Rattle.answers.specs.Checks.{firstOf}
 use Rattle.counts.specs.Counts.{N}
 use Rattle.tables.specs.Usable.{shellChecks}
-use Rattle.shell.specs.declared.Shell.{Shell}
-use Rattle.shell.specs.declared.Shell.the-variants.{Usable, Unusable}
 use Rattle.shell.specs.declared.Counted.{Counted}
 use Rattle.shell.specs.declared.Counted.the-variants.{Points, Refused}
-
--- what the check of a shell answers
-abbrev pub shellMeaning : Shell → List ℕ
-shellMeaning Usable = 0 ∷ []
-shellMeaning (Unusable refusal) = meaning refusal
 
 -- what the call count answers: N, or a refusal
 abbrev pub countMeaning : Counted → List ℕ
@@ -23,4 +16,4 @@ countMeaning (Refused refusal) = meaning refusal
 
 -- what the call count is to say
 abbrev pub countSays : ℕ → ℕ → List ℕ
-countSays l k = firstOf (shellChecks l k) (0 ∷ N l k ∷ [])
+countSays l k = firstOf (shellChecks l k (N l k)) (0 ∷ N l k ∷ [])

@@ -2,6 +2,7 @@
 // stands in `ranges`.
 
 use answers::Refusal;
+use answers::Verdict;
 use counts::Length;
 use counts::Radius;
 use ranges::inner::largest_radius;
@@ -9,14 +10,11 @@ use ranges::inner::point_count;
 ghost use mathlib.Core.Path.{_≡_};
 ghost use mathlib.Core.List.{[], _∷_};
 ghost use Rattle.answers.specs.Checks.{firstOf};
+ghost use Rattle.answers.specs.Refusals.{verdictMeaning};
+ghost use Rattle.counts.specs.Counts.{N};
 ghost use Rattle.counts.specs.Width as widths;
 ghost use Rattle.tables.specs.Usable.{shellChecks};
-ghost use Rattle.shell.specs.Shell.{shellMeaning, countMeaning, countSays};
-
-pub enum Shell {
-    Usable,
-    Unusable(Refusal),
-}
+ghost use Rattle.shell.specs.Shell.{countMeaning, countSays};
 
 pub enum Counted {
     Points(u64),
@@ -28,28 +26,28 @@ pub fn count(length: Length, radius: Radius) -> Counted
     ensures { λ r. ⌜ countMeaning r ≡ countSays (length .0) (radius .0) ⌝ }
 {
     match check_shell(length, radius) {
-        Shell::Usable => Counted::Points(point_count(length, radius)),
-        Shell::Unusable(refusal) => Counted::Refused(refusal),
+        Verdict::Passed => Counted::Points(point_count(length, radius)),
+        Verdict::Refused(refusal) => Counted::Refused(refusal),
     }
 }
 
 // The checks 1, 2 and 3, which count, index and point begin with.
-pub fn check_shell(length: Length, radius: Radius) -> Shell
-    ensures { λ r. ⌜ shellMeaning r ≡ firstOf (shellChecks (length .0) (radius .0)) (0 ∷ []) ⌝ }
+pub fn check_shell(length: Length, radius: Radius) -> Verdict
+    ensures { λ r. ⌜ verdictMeaning r ≡ firstOf (shellChecks (length .0) (radius .0) (N (length .0) (radius .0))) (0 ∷ []) ⌝ }
 {
     if length.0 < 1 {
-        return Shell::Unusable(Refusal::LengthOutside);
+        return Verdict::Refused(Refusal::LengthOutside);
     }
     if 16 < length.0 {
-        return Shell::Unusable(Refusal::LengthOutside);
+        return Verdict::Refused(Refusal::LengthOutside);
     }
     if 32 < radius.0 {
-        return Shell::Unusable(Refusal::RadiusAbove);
+        return Verdict::Refused(Refusal::RadiusAbove);
     }
     if largest_radius(length) < radius.0 {
-        return Shell::Unusable(Refusal::ShellTooLarge);
+        return Verdict::Refused(Refusal::ShellTooLarge);
     }
-    Shell::Usable
+    Verdict::Passed
 }
 
 // The width of a total: the least number of bits b with 2^b at least n.

@@ -17,7 +17,7 @@ pub struct Range {
 // The first range, counted down from s = m, that holds n: as each starts where the one before ends, the first that ends past n. Where none
 // does, s is 0 and the start is the end of the last.
 pub fn locate(length: Length, radius: Radius, n: u64) -> Range
-    requires { ⌜ IsUsable (length .0) (radius .0) ⌝ }
+    requires { ⌜ IsUsable (length .0) (radius .0) (N (length .0) (radius .0)) ⌝ }
     ensures { λ r. ⌜ (r .s ≡ rangeOf (length .0) (radius .0) n) × (r .start ≡ O (r .s) (length .0) (radius .0)) ⌝ }
 {
     let mut s = most_nonzero(length, radius);
@@ -38,7 +38,7 @@ pub fn locate(length: Length, radius: Radius, n: u64) -> Range
 
 // Whether the index is below N. Radius 0 has no range from 1 on, and the one index 0.
 pub fn holds(range: Range, length: Length, radius: Radius, n: u64) -> bool
-    requires { ⌜ IsUsable (length .0) (radius .0) × (range .s ≡ rangeOf (length .0) (radius .0) n) ⌝ }
+    requires { ⌜ IsUsable (length .0) (radius .0) (N (length .0) (radius .0)) × (range .s ≡ rangeOf (length .0) (radius .0) n) ⌝ }
     ensures { λ r. ⌜ r ≡ ltb n (N (length .0) (radius .0)) ⌝ }
 {
     if 0 < range.s {

@@ -1,8 +1,8 @@
 // The point of an index, written from the first coordinate on: each coordinate is zero or the next of the shape, and what is left are the
-// parts of a point that is one coordinate shorter.
-use crate::inner::coordinate::signed;
-use crate::inner::parts::Parts;
+// components of a point that is one coordinate shorter.
+use crate::inner::components::Components;
 use crate::inner::range::Range;
+use coordinates::inner::signed;
 use counts::Length;
 use counts::Radius;
 use ranges::inner::pattern_count;
@@ -13,7 +13,7 @@ ghost use Prim.Native.Nat.{suc, _≤_, _<_};
 ghost use lib.ListN as listed;
 ghost use Rattle.counts.specs.Counts.{S};
 ghost use Rattle.enumeration.specs.Reading.{productPoint};
-ghost use Rattle.product.specs.Parts.{IsIndexOf, Writable, writtenFrom};
+ghost use Rattle.product.specs.Components.{IsIndexOf, MakesPoint, writtenFrom};
 ghost use Rattle.product.specs.Steps.{IsFirstOf, Nonzero, taken};
 
 // The first magnitude of a shape, and the number of the shape that is left.
@@ -63,26 +63,26 @@ fn first_magnitude(s: usize, radius: Radius, shape: u32) -> First
     search_magnitude(s, radius, shape)
 }
 
-// A coordinate, and the parts of what is left to write.
+// A coordinate, and the components of what is left to write.
 struct Step {
     c: i32,
-    left: Parts,
+    left: Components,
 }
 
 // The first coordinate where it is nonzero: as many patterns as `zeros`, which begin with a zero, come before.
-fn nonzero(parts: Parts, zeros: u32) -> Step
-    requires { ⌜ Nonzero parts zeros ⌝ }
-    ensures { λ r. ⌜ r ≡ taken parts zeros ⌝ }
+fn nonzero(components: Components, zeros: u32) -> Step
+    requires { ⌜ Nonzero components zeros ⌝ }
+    ensures { λ r. ⌜ r ≡ taken components zeros ⌝ }
 {
-    let s = parts.s - 1;
-    let first = first_magnitude(s, Radius(parts.k), parts.shape);
-    let negative = (parts.sign >> s) % 2 == 1;
-    let left = Parts {
+    let s = components.s - 1;
+    let first = first_magnitude(s, Radius(components.k), components.shape);
+    let negative = (components.sign >> s) % 2 == 1;
+    let left = Components {
         s,
-        k: parts.k - first.magnitude,
-        pattern: parts.pattern - zeros,
+        k: components.k - first.magnitude,
+        pattern: components.pattern - zeros,
         shape: first.left,
-        sign: parts.sign,
+        sign: components.sign,
     };
     Step {
         c: signed(negative, first.magnitude),
@@ -90,24 +90,27 @@ fn nonzero(parts: Parts, zeros: u32) -> Step
     }
 }
 
-// The first coordinate of a point, and the parts of the rest, which is `behind` coordinates long.
-fn next(parts: Parts, behind: usize) -> Step
-    requires { ⌜ Writable parts (suc behind) ⌝ }
-    ensures { λ r. ⌜ Writable (r .left) behind × (writtenFrom parts (suc behind) ≡ r .c ∷ writtenFrom (r .left) behind) ⌝ }
+// The first coordinate of a point, and the components of the rest, which is `behind` coordinates long.
+fn next(components: Components, behind: usize) -> Step
+    requires { ⌜ MakesPoint components (suc behind) ⌝ }
+    ensures { λ r. ⌜ MakesPoint (r .left) behind × (writtenFrom components (suc behind) ≡ r .c ∷ writtenFrom (r .left) behind) ⌝ }
 {
-    let zeros = pattern_count(parts.s, Length(behind));
-    if parts.pattern < zeros {
-        return Step { c: 0, left: parts };
+    let zeros = pattern_count(components.s, Length(behind));
+    if components.pattern < zeros {
+        return Step {
+            c: 0,
+            left: components,
+        };
     }
-    nonzero(parts, zeros)
+    nonzero(components, zeros)
 }
 
-// The point that these are the parts of, written into the whole buffer.
-fn write(parts: Parts, out: &mut [i32])
-    requires { ⌜ Writable parts (listed.length (now out)) ⌝ }
-    ensures { λ r. ⌜ now (out .exit) ≡ writtenFrom parts (listed.length (now (out .entry))) ⌝ }
+// The point that these are the components of, written into the whole buffer.
+fn write(components: Components, out: &mut [i32])
+    requires { ⌜ MakesPoint components (listed.length (now out)) ⌝ }
+    ensures { λ r. ⌜ now (out .exit) ≡ writtenFrom components (listed.length (now (out .entry))) ⌝ }
 {
-    let mut left = parts;
+    let mut left = components;
     let mut at = 0;
     while at < out.len() {
         let step = next(left, out.len() - at - 1);
@@ -118,15 +121,15 @@ fn write(parts: Parts, out: &mut [i32])
     }
 }
 
-// The parts of the point of an index, from its position in its range. At radius 0 no coordinate is nonzero.
-fn parts_at(length: Length, radius: Radius, n: u64, range: Range) -> Parts
+// The components of the point of an index, from its position in its range. At radius 0 no coordinate is nonzero.
+fn components_at(length: Length, radius: Radius, n: u64, range: Range) -> Components
     requires { ⌜ IsIndexOf (length .0) (radius .0) n (range .s) (range .start) ⌝ }
-    ensures { λ r. ⌜ Writable r (length .0) × (productPoint (length .0) (radius .0) n ≡ writtenFrom r (length .0)) ⌝ }
+    ensures { λ r. ⌜ MakesPoint r (length .0) × (productPoint (length .0) (radius .0) n ≡ writtenFrom r (length .0)) ⌝ }
 {
     let s = range.s;
     let within = n - range.start;
     if s == 0 {
-        return Parts {
+        return Components {
             s,
             k: radius.0,
             pattern: 0,
@@ -136,7 +139,7 @@ fn parts_at(length: Length, radius: Radius, n: u64, range: Range) -> Parts
     }
     let block = (within >> s) as u32;
     let shapes = shape_count(s, radius);
-    Parts {
+    Components {
         s,
         k: radius.0,
         pattern: block / shapes,
@@ -150,5 +153,5 @@ pub fn write_point(length: Length, radius: Radius, n: u64, range: Range, out: &m
     requires { ⌜ IsIndexOf (length .0) (radius .0) n (range .s) (range .start) × (listed.length (now out) ≡ length .0) ⌝ }
     ensures { λ r. ⌜ now (out .exit) ≡ productPoint (length .0) (radius .0) n ⌝ }
 {
-    write(parts_at(length, radius, n, range), out);
+    write(components_at(length, radius, n, range), out);
 }

@@ -1,6 +1,6 @@
 // The index of a point, in one pass from its last coordinate: the weight of what stands from a coordinate on is made of that of what stands
 // after it.
-use crate::inner::coordinate::magnitude;
+use coordinates::inner::magnitude;
 use counts::Length;
 use counts::Radius;
 use ranges::inner::pattern_count;
@@ -11,11 +11,11 @@ ghost use mathlib.Core.Path.{_≡_};
 ghost use Prim.Native.Nat.{suc, _+_, _-_, _*_, _≤_, _<_};
 ghost use lib.ListN.{drop};
 ghost use lib.ListN as listed;
-ghost use Rattle.counts.specs.Counts.{B};
+ghost use Rattle.counts.specs.Counts.{N, B};
 ghost use Rattle.enumeration.specs.Point.{OnShell, radiusOf};
 ghost use Rattle.enumeration.specs.Product.{signBit, productIndex};
 ghost use Rattle.tables.specs.Usable.{IsUsable};
-ghost use Rattle.product.specs.Weights.{nothing, weightOf, grown, Room, Summable, weighed, Weighable};
+ghost use Rattle.product.specs.Weights.{nothing, weightOf, extended, Room, Summable, weighed, Weighable};
 
 // Of some coordinates: the number s of those that are nonzero, their sum k, the pattern index, the number of shapes that come after theirs, and the
 // sign index.
@@ -38,7 +38,7 @@ fn sign_weight(negative: bool, s: usize) -> u64
 // The weight of a nonzero coordinate of this magnitude and sign with `left` zeros after it: as many patterns come before, and no shape after.
 fn last_nonzero(i: usize, negative: bool, left: Length) -> Weight
     requires { ⌜ left .0 ≤ 16 ⌝ }
-    ensures { λ r. ⌜ r ≡ grown nothing i negative (left .0) ⌝ }
+    ensures { λ r. ⌜ r ≡ extended nothing i negative (left .0) ⌝ }
 {
     Weight {
         s: 1,
@@ -53,7 +53,7 @@ fn last_nonzero(i: usize, negative: bool, left: Length) -> Weight
 // have a zero there, the shapes after it a larger magnitude.
 fn with_others(behind: Weight, i: usize, negative: bool, left: Length) -> Weight
     requires { ⌜ Room behind i negative (left .0) × (0 < behind .k) ⌝ }
-    ensures { λ r. ⌜ r ≡ grown behind i negative (left .0) ⌝ }
+    ensures { λ r. ⌜ r ≡ extended behind i negative (left .0) ⌝ }
 {
     let s = behind.s + 1;
     Weight {
@@ -68,7 +68,7 @@ fn with_others(behind: Weight, i: usize, negative: bool, left: Length) -> Weight
 // The same with one other: D(2,l) and S(2,k), without a look-up.
 fn with_one_other(behind: Weight, i: usize, negative: bool, left: Length) -> Weight
     requires { ⌜ Room behind i negative (left .0) × (0 < behind .k) × (behind .s ≡ 1) ⌝ }
-    ensures { λ r. ⌜ r ≡ grown behind i negative (left .0) ⌝ }
+    ensures { λ r. ⌜ r ≡ extended behind i negative (left .0) ⌝ }
 {
     let l = left.0;
     Weight {
@@ -83,7 +83,7 @@ fn with_one_other(behind: Weight, i: usize, negative: bool, left: Length) -> Wei
 // The same for any number of others.
 fn with_nonzero(behind: Weight, i: usize, negative: bool, left: Length) -> Weight
     requires { ⌜ Room behind i negative (left .0) ⌝ }
-    ensures { λ r. ⌜ r ≡ grown behind i negative (left .0) ⌝ }
+    ensures { λ r. ⌜ r ≡ extended behind i negative (left .0) ⌝ }
 {
     if behind.s == 0 {
         return last_nonzero(i, negative, left);
@@ -142,7 +142,7 @@ fn sum_up(weight: Weight, start: u64, shapes: u64, signs: u64) -> u64
 
 // The index of the point of this weight. At radius 0 there are no nonzero coordinates, and the index is 0.
 fn weigh(length: Length, radius: Radius, weight: Weight) -> u64
-    requires { ⌜ IsUsable (length .0) (radius .0) × Weighable (length .0) (radius .0) weight ⌝ }
+    requires { ⌜ IsUsable (length .0) (radius .0) (N (length .0) (radius .0)) × Weighable (length .0) (radius .0) weight ⌝ }
     ensures { λ r. ⌜ r ≡ weighed (length .0) (radius .0) weight ⌝ }
 {
     let s = weight.s;
@@ -156,7 +156,7 @@ fn weigh(length: Length, radius: Radius, weight: Weight) -> u64
 
 // The index of a point of a usable shell.
 pub fn index_of(length: Length, radius: Radius, x: &[i32]) -> u64
-    requires { ⌜ IsUsable (length .0) (radius .0) × OnShell (length .0) (radius .0) (now x) ⌝ }
+    requires { ⌜ IsUsable (length .0) (radius .0) (N (length .0) (radius .0)) × OnShell (length .0) (radius .0) (now x) ⌝ }
     ensures { λ r. ⌜ r ≡ productIndex (now (x .entry)) ⌝ }
 {
     weigh(length, radius, weight_of(x))

@@ -3,7 +3,7 @@ use borrow.Author.Needs.{needs, sfits-of}
 use mathlib.Core.Path.{_∙_}
 use mir.Syntax.{w32}
 use mir.Val.{toZ, ofZ}
-use Rattle.product.proofs.Coordinates.{kept}
+use Rattle.coordinates.proofs.Coordinates.{kept}
 use Rattle.product.proofs.Writing.{taken-is}
 use Rattle.product.proofs.inner.read.nonzero.Statement.{statement}
 use Rattle.product.proofs.inner.read.nonzero.Tie as tie
@@ -30,7 +30,7 @@ returns : tie.Need-returns
 returns c =
     let a = c .before .before .before .before .before .before .before .args in
     let first = c .before .before .before .before .before .first-magnitude in
-    taken-is (a .parts) (a .zeros) (first .result .magnitude) (first .result .left) (toZ w32 (ofZ w32 (c .signed .result))) (first .ensures .0)
+    taken-is (a .components) (a .zeros) (first .result .magnitude) (first .result .left) (toZ w32 (ofZ w32 (c .signed .result))) (first .ensures .0)
     (first .ensures .1)
     (kept (c .signed .result) (sfits-of (c .signed .ok)) ∙ c .signed .ensures)
 

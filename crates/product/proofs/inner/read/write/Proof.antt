@@ -8,15 +8,15 @@ use native.Mathlib.Omega.{arith}
 use lib.ListN.{length, take, length-set}
 use mir.Syntax.{w32}
 use mir.Val.{toZ, ofZ}
-use Rattle.product.specs.Parts.{Writable, writtenFrom}
-use Rattle.product.proofs.Coordinates.{kept}
+use Rattle.coordinates.proofs.Coordinates.{kept}
+use Rattle.product.specs.Components.{MakesPoint, writtenFrom}
 use Rattle.product.proofs.Writing.{write-one, write-all}
 use Rattle.product.proofs.inner.read.write.Statement.{statement}
 use Rattle.product.proofs.inner.read.write.Tie as tie
 
 abbrev Inv-loop : tie.InvT-loop
 Inv-loop out₀ left₀ at₀ out left at =
-    (at ≤ length out) × (length out ≡ length out₀) × Writable left (length out - at)
+    (at ≤ length out) × (length out ≡ length out₀) × MakesPoint left (length out - at)
     × (writtenFrom left₀ (length out₀) ≡ take at out ++ writtenFrom left (length out - at))
 
 abbrev μ-loop : tie.MeasureT-loop
@@ -58,7 +58,7 @@ loop-again c =
     let step = c .before .before .next in
     let z = step .result .c in
     let more =
-    write-one (writtenFrom (a .parts) (length (a .out .now))) (at .out) (at .at) (at .left) (step .result .left) z (toZ w32 (ofZ w32 z))
+    write-one (writtenFrom (a .components) (length (a .out .now))) (at .out) (at .at) (at .left) (step .result .left) z (toZ w32 (ofZ w32 z))
     (omega arith)
     (kept z (sfits-of (c .before .struct-told .given .0 .1)))
     (step .ensures)
@@ -72,7 +72,7 @@ returns : tie.Need-returns Inv-loop μ-loop
 returns c =
     let a = c .before .before .args in
     let at = c .before .loop in
-    write-all (writtenFrom (a .parts) (length (a .out .now))) (at .out) (at .at) (at .left) (omega arith) (at .inv .3)
+    write-all (writtenFrom (a .components) (length (a .out .now))) (at .out) (at .at) (at .left) (omega arith) (at .inv .3)
 
 pub write-spec : {M : Type 1} → statement M
 write-spec =

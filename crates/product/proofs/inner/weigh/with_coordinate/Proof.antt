@@ -9,9 +9,10 @@ use lib.ListN.{length, drop, getD}
 use lib.Signed.{ltZ}
 use mir.Syntax.{w32}
 use mir.Val.{SFits, toZ, ofZ}
+use Rattle.coordinates.proofs.Coordinates.{kept}
 use Rattle.product.specs.declared.inner.weigh.Weight.{Weight}
-use Rattle.product.specs.Weights.{weightOf, grown, Room}
-use Rattle.product.proofs.Coordinates.{kept, zero-bits, nonzero-bits, negative-is}
+use Rattle.product.specs.Weights.{weightOf, extended, Room}
+use Rattle.product.proofs.Coordinates.{zero-bits, nonzero-bits, negative-is}
 use Rattle.product.proofs.Growth.{Added, with-zero, with-nonzero}
 use Rattle.product.proofs.inner.weigh.with_coordinate.Statement.{statement}
 use Rattle.product.proofs.inner.weigh.with_coordinate.Tie as tie
@@ -20,7 +21,7 @@ use Rattle.product.proofs.inner.weigh.with_coordinate.Tie as tie
 read-nonzero : (behind : Weight) (x : List ℤ) (at m : ℕ) → Added behind x at → SFits w32 (getD x at (pos 0)) → (ofZ w32 (getD x at (pos 0)) ≡ 0 → ⊥)
     → m ≡ natAbs (toZ w32 (ofZ w32 (getD x at (pos 0))))
     → Room behind m (ltZ (toZ w32 (ofZ w32 (getD x at (pos 0)))) (pos 0)) (length x - at - 1)
-    × (grown behind m (ltZ (toZ w32 (ofZ w32 (getD x at (pos 0)))) (pos 0)) (length x - at - 1) ≡ weightOf (drop at x))
+    × (extended behind m (ltZ (toZ w32 (ofZ w32 (getD x at (pos 0)))) (pos 0)) (length x - at - 1) ≡ weightOf (drop at x))
 read-nonzero behind x at m p f n e =
     let z = getD x at (pos 0) in
     with-nonzero behind x at p m (ltZ (toZ w32 (ofZ w32 z)) (pos 0)) (nonzero-bits z n) (e ∙ ap natAbs (kept z f))

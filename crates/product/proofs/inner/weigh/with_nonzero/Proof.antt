@@ -1,7 +1,7 @@
 -- `product::inner::weigh::with_nonzero` adds the coordinate to others, to one, or to nothing. Assumes nothing.
 use borrow.Author.Needs.{needs}
 use mathlib.Core.Path.{sym, ap, _∙_}
-use Rattle.product.specs.Weights.{grown}
+use Rattle.product.specs.Weights.{extended}
 use Rattle.product.proofs.inner.weigh.with_nonzero.Statement.{statement}
 use Rattle.product.proofs.inner.weigh.with_nonzero.Tie as tie
 
@@ -9,7 +9,7 @@ returns : tie.Need-returns
 returns c =
     let st = c .before .before .before in
     let a = st .args in
-    c .last-nonzero .ensures ∙ ap (λ behind. grown behind (a .i) (a .negative) (a .left .0)) (sym (st .pre .none-behind (c .before .if1 .taken)))
+    c .last-nonzero .ensures ∙ ap (λ behind. extended behind (a .i) (a .negative) (a .left .0)) (sym (st .pre .none-behind (c .before .if1 .taken)))
 
 with-one-other-requires : tie.Need-with-one-other-requires
 with-one-other-requires c κs =

@@ -1,11 +1,11 @@
--- `product::inner::coordinate::magnitude` is the absolute value, of the lowest i32 too: it is widened before it is negated. Assumes nothing.
+-- `coordinates::inner::magnitude` is the absolute value, of the lowest i32 too: it is widened before it is negated. Assumes nothing.
 use mathlib.Core.Path.{ap}
 use lib.IntN.{natAbs}
 use mir.Syntax.{w32, w64}
 use mir.Facts.{toZ-ofZ, sfits-widen}
-use Rattle.product.proofs.Coordinates.{kept, widened, magnitude-bound, magnitude-fits, negated, not-negative}
-use Rattle.product.proofs.inner.coordinate.magnitude.Statement.{statement}
-use Rattle.product.proofs.inner.coordinate.magnitude.Tie as tie
+use Rattle.coordinates.proofs.Coordinates.{kept, widened, magnitude-bound, magnitude-fits, negated, not-negative}
+use Rattle.coordinates.proofs.inner.magnitude.Statement.{statement}
+use Rattle.coordinates.proofs.inner.magnitude.Tie as tie
 
 cast-wide : tie.Need-cast-wide
 cast-wide c = rw (kept (c .args .c) (c .fits .c)) (sfits-widen {w = w32} {w′ = w64} tt (c .fits .c))

@@ -1,12 +1,12 @@
--- `product::inner::coordinate::signed` is the magnitude, negated where it is to be negative. Assumes nothing.
+-- `coordinates::inner::signed` is the magnitude, negated where it is to be negative. Assumes nothing.
 use borrow.Author.Needs.{needs}
 use mathlib.Core.Path.{_∙_}
 use native.Mathlib.Omega.{arith}
 use mir.Syntax.{w32}
 use mir.Facts.{toZ-pos, toZ-ofZ}
-use Rattle.product.proofs.Coordinates.{minus-is, minus-fits}
-use Rattle.product.proofs.inner.coordinate.signed.Statement.{statement}
-use Rattle.product.proofs.inner.coordinate.signed.Tie as tie
+use Rattle.coordinates.proofs.Coordinates.{minus-is, minus-fits}
+use Rattle.coordinates.proofs.inner.signed.Statement.{statement}
+use Rattle.coordinates.proofs.inner.signed.Tie as tie
 
 cast-c : tie.Need-cast-c
 cast-c c = search needs

@@ -1,9 +1,9 @@
--- `product::inner::read::parts_at` gives the parts of the point of an index: the signs are the low bits of its position in the range, and the
--- pattern and the shape are quotient and remainder of the rest by the shape count. Assumes nothing.
+-- `product::inner::read::components_at` gives the components of the point of an index: the signs are the low bits of its position in the range, and
+-- the pattern and the shape are quotient and remainder of the rest by the shape count. Assumes nothing.
 use native.Mathlib.Omega.{arith}
-use Rattle.product.proofs.Located.{start-to, s-to-most, block-below, shapes-from, parts-there, no-parts}
-use Rattle.product.proofs.inner.read.parts_at.Statement.{statement}
-use Rattle.product.proofs.inner.read.parts_at.Tie as tie
+use Rattle.product.proofs.Located.{start-to, s-to-most, block-below, shapes-from, components-there, no-components}
+use Rattle.product.proofs.inner.read.components_at.Statement.{statement}
+use Rattle.product.proofs.inner.read.components_at.Tie as tie
 
 sub-within : tie.Need-sub-within
 sub-within c =
@@ -15,7 +15,7 @@ returns : tie.Need-returns
 returns c =
     let st = c .before .before in
     let a = st .args in
-    no-parts (a .length .0) (a .radius .0) (a .n) (a .range .s) (a .range .start) (st .pre) (c .if1 .taken)
+    no-components (a .length .0) (a .radius .0) (a .n) (a .range .s) (a .range .start) (st .pre) (c .if1 .taken)
 
 shr-block : tie.Need-shr-block
 shr-block c =
@@ -52,10 +52,10 @@ returns-2 : tie.Need-returns-2
 returns-2 c =
     let st = c .before .before .before in
     let a = st .args in
-    parts-there (a .length .0) (a .radius .0) (a .n) (a .range .s) (a .range .start) (st .pre) (c .shape-count .result) (c .shape-count .ensures)
+    components-there (a .length .0) (a .radius .0) (a .n) (a .range .s) (a .range .start) (st .pre) (c .shape-count .result) (c .shape-count .ensures)
 
-pub parts-at-spec : {M : Type 1} → statement M
-parts-at-spec =
+pub components-at-spec : {M : Type 1} → statement M
+components-at-spec =
     tie.close
     (tie.spec
     sub-within

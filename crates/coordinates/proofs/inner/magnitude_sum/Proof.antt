@@ -1,4 +1,4 @@
--- `product::inner::coordinate::magnitude_sum` is the radius of the vector: from the last coordinate on, what is summed is the radius of what
+-- `coordinates::inner::magnitude_sum` is the radius of the vector: from the last coordinate on, what is summed is the radius of what
 -- stands from `at` on, at most 2^31 for each coordinate. Assumes nothing.
 use borrow.Author.Needs.{needs, sfits-of}
 use Prim.Native.Nat.{_-_, _*_, _≤_}
@@ -10,9 +10,9 @@ use lib.ListN.{length, drop, getD}
 use lib.Seq.{drop-length}
 use Rattle.enumeration.specs.Point.{radiusOf}
 use Rattle.enumeration.proofs.Tails.{drop-back}
-use Rattle.product.proofs.Coordinates.{kept}
-use Rattle.product.proofs.inner.coordinate.magnitude_sum.Statement.{statement}
-use Rattle.product.proofs.inner.coordinate.magnitude_sum.Tie as tie
+use Rattle.coordinates.proofs.Coordinates.{kept}
+use Rattle.coordinates.proofs.inner.magnitude_sum.Statement.{statement}
+use Rattle.coordinates.proofs.inner.magnitude_sum.Tie as tie
 
 abbrev Inv-loop : tie.InvT-loop
 Inv-loop x at₀ sum₀ at sum = (at ≤ length x) × (sum ≡ radiusOf (drop at x)) × (sum ≤ (length x - at) * 2147483648)
