@@ -11,7 +11,7 @@ use lib.Ieee.{Float, nan}
 use lib.IntN.{ℤ, pos, negsuc, natAbs}
 use lib.ListN.{length, getD, length-map}
 use lib.Seq.{ext-getD}
-use Rattle.enumeration.specs.Point.{sumOf, radiusOf, OnShell, signed, isNegative}
+use Rattle.enumeration.specs.Point.{sumOf, OnShell, signed, isNegative}
 use Rattle.enumeration.proofs.Spread.{signed-magnitude}
 use Rattle.floats.specs.Units.{negative}
 use Rattle.floats.specs.Nearest.{nearestWhole}
