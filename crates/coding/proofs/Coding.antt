@@ -20,7 +20,7 @@ use Rattle.coding.specs.Bounds.{Codable}
 use Rattle.coding.specs.Coded.{numberFor, radiusFor, pointFor}
 use Rattle.vectors.specs.Radius.{chosenNumber}
 use Rattle.vectors.specs.Points.{magnitudesOf, totalOf, signedBy, pointOf}
-use Rattle.shares.proofs.Filling.{read-map}
+use Rattle.shares.proofs.Mapped.{read-map}
 use Rattle.vectors.proofs.Radii.{number-below, some-total}
 use Rattle.shares.proofs.Sharing.{shared-length, shared-up-to}
 use Rattle.vectors.proofs.Points.{point-on-shell}

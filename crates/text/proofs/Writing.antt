@@ -1,44 +1,22 @@
--- Texts written one after the other: what stands behind another makes one text with it. From that, a number by its digits, an integer behind a space, a
--- text by its bytes, fields one by one, a word, and a line from its first field to its newline. Assumes nothing.
+-- What the functions that write a text put together: a number by its digits, an integer behind a space, fields one by one, a word, and a line from its
+-- first field to its newline. Assumes nothing.
 use Prim.Native.Nat.{ℕ, zero, suc, _+_, _*_, _/_, _%_, _^_, _≤_, _<_}
 use mathlib.Core.Bool.{true, false, false≢true}
 use mathlib.Core.List.{List, [], _∷_, _++_, map, append-nil, append-assoc, map-append}
 use mathlib.Core.Path.{_≡_, refl, sym, ap, _∙_}
-use native.Mathlib.Nat.{add-zero, mul-suc, lt-trans, lt-of-le-of-lt, div-lt-iff-lt-mul}
+use native.Mathlib.Nat.{mul-suc, lt-trans, lt-of-le-of-lt, div-lt-iff-lt-mul}
 use native.Mathlib.Numerals.{add-one}
 use native.Mathlib.Omega.{arith}
 use borrow.Author.Tests.{ltb-true}
 use lib.Dec.{lit<}
 use lib.IntN.{ℤ, pos, negsuc, natAbs}
-use lib.ListN.{length, getD, set, take, length-append}
-use lib.Seq.{sets, length-sets, take-suc, take-length}
+use lib.ListN.{length, getD, take}
+use lib.Seq.{take-suc, take-length}
 use lib.Signed.{ltZ}
+use Rattle.buffers.specs.Written.{Wrote}
+use Rattle.buffers.proofs.Writing.{wrote-then, wrote-to}
 use Rattle.text.specs.Text.{ascii, digit, decimal, integer, spaced, line, word}
 use Rattle.text.proofs.Decimal.{decimal-one, decimal-more, decimal-size}
-use Rattle.text.specs.Written.{Wrote}
-
--- ---- one text, and another behind it
-sets-then : (s t held : List ℕ) (at : ℕ) → sets (sets held at s) (at + length s) t ≡ sets held at (s ++ t)
-sets-then [] t held at = rw (add-zero at) refl
-sets-then (x ∷ s) t held at =
-    let on : at + length (x ∷ s) ≡ suc at + length s = omega arith in
-    rw on (sets-then s t (set held at x) (suc at))
-
-module _ {held x y : List ℕ} {at r r′ m m′ : ℕ} {s t : List ℕ} where
-  pub wrote-then : Wrote held at s m r x → Wrote x r t m′ r′ y → Wrote held at (s ++ t) (m + m′) r′ y
-  wrote-then one two = record {
-    ends = rw (length-append s t) (omega (arith, one .ends, two .ends));
-    made = two .made ∙ rw (one .made, one .ends) (sets-then s t held at);
-    to = omega (arith, one .to, two .to);
-  }
-
--- the buffer is as long as before
-pub wrote-length : {held x s : List ℕ} {at r m : ℕ} → Wrote held at s m r x → length x ≡ length held
-wrote-length {held} {s = s} {at = at} w = ap length (w .made) ∙ length-sets held at s
-
--- the same text under another bound
-pub wrote-to : {held x : List ℕ} {at r m : ℕ} {s : List ℕ} (most : ℕ) → length s ≤ most → Wrote held at s m r x → Wrote held at s most r x
-wrote-to most h w = record { ends = w .ends; made = w .made; to = omega (arith, w .ends) }
 
 -- ---- decimal numbers of 64 bits: one digit, or those of the tenth and one more
 pub digit-written : {held x : List ℕ} {at r : ℕ} (n : ℕ) → n < 10 → Wrote held at (digit n ∷ []) 1 r x → Wrote held at (decimal n) 20 r x
@@ -69,25 +47,6 @@ module _ {held x : List ℕ} {at r : ℕ} (space : Wrote held at (ascii " ") 1 r
   minus-written {m = m} (negsuc n) sign h minus w =
       let size = decimal-size 9 (suc n) (lt-of-le-of-lt h (lit< tt)) in
       wrote-to {m = 1 + (1 + m)} 12 (omega arith) (wrote-then space (wrote-then minus w))
-
--- ---- one byte, and a text byte by byte
-pub byte-written : (held : List ℕ) (at b : ℕ) → Wrote held at (b ∷ []) 1 (at + 1) (set held at b)
-byte-written held at b = record { ends = refl; made = refl; to = omega arith }
-
-pub nothing-written : (held : List ℕ) (at : ℕ) → Wrote held at [] 0 at held
-nothing-written held at = record { ends = omega arith; made = refl; to = omega arith }
-
-pub all-text : {held so-far : List ℕ} {at : ℕ} (text : List ℕ) (i : ℕ) → length text ≤ i → i ≤ length text
-    → Wrote held at (take i text) i (at + i) so-far → Wrote held at text (length text) (at + i) so-far
-all-text text i from to w =
-    let all : i ≡ length text = omega arith in
-    record { ends = omega arith; made = w .made ∙ rw (all, take-length text) refl; to = omega arith }
-
-pub text-next : {held so-far : List ℕ} {at : ℕ} (text : List ℕ) (i : ℕ) → i < length text → Wrote held at (take i text) i (at + i) so-far
-    → Wrote held at (take (i + 1) text) (i + 1) (at + (i + 1)) (set so-far (at + i) (getD text i 0))
-text-next text i h w =
-    let on = wrote-then w (byte-written _ _ (getD text i 0)) in
-    rw (add-one i, take-suc text i 0 h) (record { ends = omega (arith, on .ends); made = on .made; to = omega (arith, on .to) })
 
 -- ---- fields, one after the other, each written by `f`
 spaced-one : (field : List ℕ) → spaced (field ∷ []) ≡ ascii " " ++ field
@@ -148,4 +107,4 @@ module _ {held x : List ℕ} {at r m : ℕ} (first : List ℕ) (fields : List (L
   pub ended : {y : List ℕ} {r′ : ℕ} → m + 1 ≤ 256 → Wrote x r (ascii "\n") 1 r′ y → Wrote held at (line first fields) 256 r′ y
   ended h w =
       let all = wrote-then so-far w in
-      rw (← append-assoc first (spaced fields) (ascii "\n")) (record { ends = all .ends; made = all .made; to = omega (arith, all .to) })
+      rw (← append-assoc first (spaced fields) (ascii "\n")) (wrote-to 256 (omega (arith, all .ends, all .to)) all)

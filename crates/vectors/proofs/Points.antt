@@ -11,33 +11,33 @@ use lib.Ieee.{Float, nan}
 use lib.IntN.{ℤ, pos, negsuc, natAbs}
 use lib.ListN.{length, getD, length-map}
 use lib.Seq.{ext-getD}
-use Rattle.enumeration.specs.Point.{sumOf, radiusOf, OnShell, signed, isNegative}
+use Rattle.enumeration.specs.Point.{sumOf, OnShell, signed, isNegative}
 use Rattle.enumeration.proofs.Spread.{signed-magnitude}
 use Rattle.floats.specs.Units.{negative}
 use Rattle.floats.specs.Nearest.{nearestWhole}
 use Rattle.shares.specs.Shares.{shared}
 use Rattle.vectors.specs.Points.{magnitudesOf, totalOf, signedBy, pointOf, IsPointOf}
-use Rattle.shares.proofs.Filling.{read-map}
+use Rattle.shares.proofs.Mapped.{read-map}
 use Rattle.shares.proofs.Sharing.{shared-length, shared-sum, shared-zero}
 use Rattle.shares.proofs.Remainders.{shared-is, shared-only}
 
-pub signed-length : (xs : List Float) (parts : List ℕ) → length parts ≡ length xs → length (signedBy xs parts) ≡ length xs
-signed-length [] parts same = refl
+pub signed-length : (xs : List Float) (ms : List ℕ) → length ms ≡ length xs → length (signedBy xs ms) ≡ length xs
+signed-length [] ms same = refl
 signed-length (x ∷ xs) [] same = absurd (omega arith)
-signed-length (x ∷ xs) (i ∷ parts) same = ap suc (signed-length xs parts (omega arith))
+signed-length (x ∷ xs) (i ∷ ms) same = ap suc (signed-length xs ms (omega arith))
 
-pub signed-at : (xs : List Float) (parts : List ℕ) (i : ℕ) → i < length xs → length parts ≡ length xs
-    → getD (signedBy xs parts) i (pos 0) ≡ signed (negative (getD xs i nan)) (getD parts i 0)
-signed-at [] parts i h same = absurd (omega arith)
+pub signed-at : (xs : List Float) (ms : List ℕ) (i : ℕ) → i < length xs → length ms ≡ length xs
+    → getD (signedBy xs ms) i (pos 0) ≡ signed (negative (getD xs i nan)) (getD ms i 0)
+signed-at [] ms i h same = absurd (omega arith)
 signed-at (x ∷ xs) [] i h same = absurd (omega arith)
-signed-at (x ∷ xs) (p ∷ parts) zero h same = refl
-signed-at (x ∷ xs) (p ∷ parts) (suc i) h same = signed-at xs parts i (omega arith) (omega arith)
+signed-at (x ∷ xs) (p ∷ ms) zero h same = refl
+signed-at (x ∷ xs) (p ∷ ms) (suc i) h same = signed-at xs ms i (omega arith) (omega arith)
 
-signed-magnitudes : (xs : List Float) (parts : List ℕ) → length parts ≡ length xs → map natAbs (signedBy xs parts) ≡ parts
+signed-magnitudes : (xs : List Float) (ms : List ℕ) → length ms ≡ length xs → map natAbs (signedBy xs ms) ≡ ms
 signed-magnitudes [] [] same = refl
-signed-magnitudes [] (i ∷ parts) same = absurd (omega arith)
+signed-magnitudes [] (i ∷ ms) same = absurd (omega arith)
 signed-magnitudes (x ∷ xs) [] same = absurd (omega arith)
-signed-magnitudes (x ∷ xs) (i ∷ parts) same = rw (signed-magnitude (negative x) i, signed-magnitudes xs parts (omega arith))
+signed-magnitudes (x ∷ xs) (i ∷ ms) same = rw (signed-magnitude (negative x) i, signed-magnitudes xs ms (omega arith))
 
 -- a coordinate by its sign and magnitude is 0, or its sign is that
 pub zero-or-signed : (b : Bool) (i : ℕ) → (signed b i ≡ pos 0) ⊎ (isNegative (signed b i) ≡ b)

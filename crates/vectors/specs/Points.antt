@@ -21,11 +21,11 @@ magnitudesOf xs = map nearestWhole xs
 abbrev pub totalOf : List Float → ℕ
 totalOf xs = sumOf (magnitudesOf xs)
 
--- signs are those of the coefficients
+-- magnitudes ms, with the signs of the coefficients
 abbrev pub signedBy : List Float → List ℕ → List ℤ
-signedBy [] parts = []
+signedBy [] ms = []
 signedBy (x ∷ xs) [] = []
-signedBy (x ∷ xs) (i ∷ parts) = signed (negative x) i ∷ signedBy xs parts
+signedBy (x ∷ xs) (i ∷ ms) = signed (negative x) i ∷ signedBy xs ms
 
 abbrev pub pointOf : ℕ → List Float → List ℤ
 pointOf k xs = signedBy xs (shared k (magnitudesOf xs))

@@ -8,8 +8,8 @@ use crate::inner::fields::write_text;
 use crate::inner::fields::write_word;
 ghost use Prim.Native.Nat.{_+_, _≤_};
 ghost use lib.ListN.{length};
+ghost use Rattle.buffers.specs.Written.{Wrote};
 ghost use Rattle.text.specs.Text.{placeText, lastText, refusedText};
-ghost use Rattle.text.specs.Written.{Wrote};
 
 // The line of a place: its number, the number of its answer, the reason, and at most 16 coordinates.
 pub fn write_place_line(

@@ -7,9 +7,10 @@ use lib.IntN.{pos}
 use lib.ListN.{length, getD, take}
 use borrow.Author.Needs.{needs, sfits-of}
 use Rattle.product.proofs.Coordinates.{kept}
+use Rattle.buffers.specs.Written.{Wrote}
+use Rattle.buffers.proofs.Writing.{wrote-none, wrote-length}
 use Rattle.text.specs.Text.{integer, spaced}
-use Rattle.text.specs.Written.{Wrote}
-use Rattle.text.proofs.Writing.{wrote-length, nothing-written, fields-next, all-fields}
+use Rattle.text.proofs.Writing.{fields-next, all-fields}
 use Rattle.text.proofs.inner.fields.write_integers.Statement.{statement}
 use Rattle.text.proofs.inner.fields.write_integers.Tie as tie
 
@@ -20,7 +21,7 @@ abbrev μ-loop : tie.MeasureT-loop
 μ-loop xs at out₀ end₀ i₀ out end i = length xs - i
 
 loop-holds : tie.Need-loop-holds Inv-loop μ-loop
-loop-holds c = (omega arith, refl, nothing-written (c .before .args .out .now) (c .before .args .at))
+loop-holds c = (omega arith, refl, wrote-none (c .before .args .out .now) (c .before .args .at))
 
 mul : tie.Need-mul-write-integer Inv-loop μ-loop
 mul c = search needs

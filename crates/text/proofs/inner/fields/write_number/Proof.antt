@@ -1,6 +1,6 @@
 -- `text::inner::fields::write_number` writes a space and a decimal number. Assumes nothing.
 use borrow.Author.Needs.{needs}
-use Rattle.text.proofs.Writing.{wrote-then}
+use Rattle.buffers.proofs.Writing.{wrote-then}
 use Rattle.text.proofs.inner.fields.write_number.Statement.{statement}
 use Rattle.text.proofs.inner.fields.write_number.Tie as tie
 

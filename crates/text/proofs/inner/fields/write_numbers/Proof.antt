@@ -5,9 +5,10 @@ use mathlib.Core.Path.{_≡_, refl}
 use native.Mathlib.Omega.{arith}
 use lib.ListN.{length, take}
 use borrow.Author.Needs.{needs}
+use Rattle.buffers.specs.Written.{Wrote}
+use Rattle.buffers.proofs.Writing.{wrote-none, wrote-length}
 use Rattle.text.specs.Text.{decimal, spaced}
-use Rattle.text.specs.Written.{Wrote}
-use Rattle.text.proofs.Writing.{wrote-length, nothing-written, fields-next, all-fields}
+use Rattle.text.proofs.Writing.{fields-next, all-fields}
 use Rattle.text.proofs.inner.fields.write_numbers.Statement.{statement}
 use Rattle.text.proofs.inner.fields.write_numbers.Tie as tie
 
@@ -18,7 +19,7 @@ abbrev μ-loop : tie.MeasureT-loop
 μ-loop ns at out₀ end₀ i₀ out end i = length ns - i
 
 loop-holds : tie.Need-loop-holds Inv-loop μ-loop
-loop-holds c = (omega arith, refl, nothing-written (c .before .before .args .out .now) (c .before .before .args .at))
+loop-holds c = (omega arith, refl, wrote-none (c .before .before .args .out .now) (c .before .before .args .at))
 
 mul : tie.Need-mul-write-number Inv-loop μ-loop
 mul c = search needs

@@ -1,4 +1,4 @@
--- `quantizer::inner::coefficients::write_magnitudes` fills the buffer with the magnitudes. Assumes nothing.
+-- `vectors::inner::coefficients::write_magnitudes` fills the buffer with the magnitudes. Assumes nothing.
 use borrow.Author.Needs.{needs}
 use Prim.Native.Nat.{_-_, _≤_}
 use mathlib.Core.Path.{_≡_, sym, _∙_}
@@ -6,13 +6,14 @@ use native.Mathlib.Omega.{arith}
 use mathlib.Core.List.{map}
 use lib.ListN.{length, length-set, length-map}
 use lib.Ieee.{nan}
+use Rattle.buffers.specs.Written.{written}
+use Rattle.buffers.proofs.Writing.{fills-map, all-written}
 use Rattle.floats.specs.Nearest.{nearestWhole}
-use Rattle.shares.proofs.Filling.{front, fills-map, front-all}
 use Rattle.vectors.proofs.inner.coefficients.write_magnitudes.Statement.{statement}
 use Rattle.vectors.proofs.inner.coefficients.write_magnitudes.Tie as tie
 
 abbrev Inv-loop : tie.InvT-loop
-Inv-loop coefficients out₀ at₀ out at = (at ≤ length coefficients) × (length out ≡ length coefficients) × (out ≡ front out₀ (map nearestWhole coefficients) at)
+Inv-loop coefficients out₀ at₀ out at = (at ≤ length coefficients) × (length out ≡ length coefficients) × (out ≡ written out₀ 0 (map nearestWhole coefficients) at)
 
 abbrev μ-loop : tie.MeasureT-loop
 μ-loop coefficients out₀ at₀ out at = length coefficients - at
@@ -48,7 +49,7 @@ loop-again c =
     let w = c .nearest-whole .result in (
       omega arith,
       length-set (i .out) (i .at) w ∙ i .inv .1,
-      fills-map nearestWhole (a .args .coefficients .now) (a .args .out .now) (i .out) (i .at) nan w (omega (arith, a .pre .1)) (sym (a .pre .1)) (i .inv .2) (c .nearest-whole .ensures .0),
+      fills-map nearestWhole (a .args .coefficients .now) (a .args .out .now) 0 (i .at) nan (omega arith) (omega arith) (c .nearest-whole .ensures .0) (i .inv .2),
     )
 
 same-length : tie.Need-same-length Inv-loop μ-loop
@@ -59,7 +60,7 @@ returns c =
     let a = c .before .before .before .before in
     let xs = a .args .coefficients .now in
     c .before .loop .inv .2
-    ∙ front-all (a .args .out .now) (map nearestWhole xs) (c .before .loop .at) (omega (arith, a .pre .1)) (length-map xs nearestWhole ∙ sym (a .pre .1))
+    ∙ all-written (a .args .out .now) (map nearestWhole xs) (c .before .loop .at) (omega (arith, a .pre .1)) (length-map xs nearestWhole ∙ sym (a .pre .1))
 
 pub write-magnitudes-spec : {M : Type 1} → statement M
 write-magnitudes-spec =

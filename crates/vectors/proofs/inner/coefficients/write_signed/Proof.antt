@@ -1,4 +1,4 @@
--- `quantizer::inner::coefficients::write_signed` fills the buffer with the signed magnitudes. Assumes nothing.
+-- `vectors::inner::coefficients::write_signed` fills the buffer with the signed magnitudes. Assumes nothing.
 use borrow.Author.Needs.{needs, sfits-of}
 use Prim.Native.Nat.{_-_, _≤_}
 use mathlib.Core.Path.{_≡_, sym, ap, _∙_}
@@ -9,17 +9,18 @@ use mir.Val.{toZ, ofZ}
 use lib.Ieee.{nan}
 use lib.IntN.{pos}
 use lib.ListN.{length, getD, length-set}
+use Rattle.buffers.specs.Written.{written}
+use Rattle.buffers.proofs.Writing.{fills, all-written}
 use Rattle.enumeration.specs.Point.{signed}
 use Rattle.floats.specs.Units.{negative}
 use Rattle.product.proofs.Coordinates.{kept}
 use Rattle.vectors.specs.Points.{signedBy}
-use Rattle.shares.proofs.Filling.{front, fills, front-all}
 use Rattle.vectors.proofs.Points.{signed-length, signed-at}
 use Rattle.vectors.proofs.inner.coefficients.write_signed.Statement.{statement}
 use Rattle.vectors.proofs.inner.coefficients.write_signed.Tie as tie
 
 abbrev Inv-loop : tie.InvT-loop
-Inv-loop coefficients magnitudes out₀ at₀ out at = (at ≤ length coefficients) × (length out ≡ length coefficients) × (out ≡ front out₀ (signedBy coefficients magnitudes) at)
+Inv-loop coefficients magnitudes out₀ at₀ out at = (at ≤ length coefficients) × (length out ≡ length coefficients) × (out ≡ written out₀ 0 (signedBy coefficients magnitudes) at)
 
 abbrev μ-loop : tie.MeasureT-loop
 μ-loop coefficients magnitudes out₀ at₀ out at = length coefficients - at
@@ -72,8 +73,8 @@ loop-again c =
     kept z (sfits-of (c .signed .ok)) ∙ c .signed .ensures ∙ ap (λ (b : Bool). signed b (getD ms (i .at) 0)) (c .before .before .is-negative .ensures) in (
       omega arith,
       length-set (i .out) (i .at) stored ∙ i .inv .1,
-      fills (a .args .out .now) (signedBy xs ms) (i .out) (i .at) (pos 0) stored (omega (arith, a .pre .2)) (signed-length xs ms (a .pre .1) ∙ sym (a .pre .2)) (i .inv .2)
-          (next ∙ sym (signed-at xs ms (i .at) (omega arith) (a .pre .1))),
+      fills (a .args .out .now) (signedBy xs ms) 0 (i .at) (pos 0) (rw (signed-length xs ms (a .pre .1)) (omega arith)) (omega arith)
+          (next ∙ sym (signed-at xs ms (i .at) (omega arith) (a .pre .1))) (i .inv .2),
     )
 
 same-length : tie.Need-same-length Inv-loop μ-loop
@@ -85,7 +86,7 @@ returns c =
     let xs = a .args .coefficients .now in
     let ms = a .args .magnitudes .now in
     c .before .loop .inv .2
-    ∙ front-all (a .args .out .now) (signedBy xs ms) (c .before .loop .at) (omega (arith, a .pre .2)) (signed-length xs ms (a .pre .1) ∙ sym (a .pre .2))
+    ∙ all-written (a .args .out .now) (signedBy xs ms) (c .before .loop .at) (omega (arith, a .pre .2)) (signed-length xs ms (a .pre .1) ∙ sym (a .pre .2))
 
 pub write-signed-spec : {M : Type 1} → statement M
 write-signed-spec =
