@@ -63,6 +63,10 @@ pub passes-apart : (cs ds : List Check) → Passes (cs ++ ds) → Passes cs × P
 passes-apart [] ds p = (tt, p)
 passes-apart (c ∷ cs) ds p = let rest = passes-apart cs ds (p .1) in ((p .0, rest .0), rest .1)
 
+pub passes-then : (cs ds : List Check) → Passes cs → Passes ds → Passes (cs ++ ds)
+passes-then [] ds p q = q
+passes-then (c ∷ cs) ds p q = (p .0, passes-then cs ds (p .1) q)
+
 pub refuses-fails : (cs : List Check) (n : ℕ) (vs : List ℕ) → Refuses cs n vs → anyOf (failsOf cs) ≡ true
 refuses-fails [] n vs r = absurd r
 refuses-fails (c ∷ cs) n vs r = ⊎-elim (λ h. rw (h .0)) (λ h. rw (h .0) (refuses-fails cs n vs (h .1))) r

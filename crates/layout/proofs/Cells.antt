@@ -4,6 +4,7 @@ use Prim.Native.Nat.{ℕ, _+_, _-_, _≤_, _<_}
 use mathlib.Core.Path.{_≡_, refl, sym, ap, ap₂, _∙_}
 use mathlib.Core.List.{List}
 use mathlib.Core.Logic.{⊎-elim}
+use native.Mathlib.Decide.{decLt}
 use native.Mathlib.Omega.{arith}
 use lib.ListN.{length, getD, set, take, drop, replicate, length-drop, length-set, length-replicate, getD-replicate}
 use lib.Seq.{length-take-le, getD-take, getD-drop, getD-set-same, getD-set-other, ext-getD}
@@ -99,3 +100,38 @@ module _ (n : ℕ) (pg : List ℕ) (size : length pg ≡ pageLength n) (p : ℕ)
 
     pub cell-set-other : cellAt (setCell pg p c) q ≡ cellAt pg q
     cell-set-other = same-cell state-other record-other
+
+-- ---- a cell put back where it came from
+pub set-back : (n : ℕ) (pg : List ℕ) → length pg ≡ pageLength n → (p : ℕ) → p < n → setCell pg p (cellAt pg p) ≡ pg
+set-back n pg size p h =
+    page-ext n (setCell pg p (cellAt pg p)) pg (length-set-cell n pg size p h (cellAt pg p) eight ∙ size) size (λ q g. go q g (decLt q p) (decLt p q))
+  where
+    eight : length (recordAt pg p) ≡ recordLength
+    eight = length-record n pg size p h
+
+    other : (q : ℕ) → q < n → (q ≡ p → ⊥) → cellAt (setCell pg p (cellAt pg p)) q ≡ cellAt pg q
+    other q g apart = cell-set-other n pg size p h (cellAt pg p) eight q g apart
+
+    go : (q : ℕ) → q < n → Dec (q < p) → Dec (p < q) → cellAt (setCell pg p (cellAt pg p)) q ≡ cellAt pg q
+    go q g (yes before) d = other q g (λ e. omega arith)
+    go q g (no a) (yes behind) = other q g (λ e. omega arith)
+    go q g (no a) (no b) = let same : q ≡ p = omega arith in rw same (cell-set-same n pg size p h (cellAt pg p) eight)
+
+-- ---- an empty page
+pub empty-size : (n : ℕ) → length (emptyPage n) ≡ pageLength n
+empty-size n = length-replicate (pageLength n) 0
+
+pub empty-cell : (n p : ℕ) → p < n → cellAt (emptyPage n) p ≡ emptyCell
+unfolding stateAt
+empty-cell n p h =
+    same-cell (getD-replicate (pageLength n) (stateOffset p) 0 0 (state-inside n p h))
+    (ext-getD 0 (recordAt (emptyPage n) p) (emptyCell .bytes) eight (λ i g. byte i (omega (arith, eight))))
+  where
+    eight : length (recordAt (emptyPage n) p) ≡ recordLength
+    eight = length-record n (emptyPage n) (empty-size n) p h
+
+    byte : (i : ℕ) → i < 8 → getD (recordAt (emptyPage n) p) i 0 ≡ getD (emptyCell .bytes) i 0
+    byte i g =
+        record-byte (emptyPage n) p i g
+        ∙ getD-replicate (pageLength n) (recordOffset p + i) 0 0 (omega (arith, record-inside n p h))
+        ∙ sym (getD-replicate 8 i 0 0 g)

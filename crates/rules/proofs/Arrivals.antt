@@ -3,50 +3,51 @@
 use Prim.Native.Nat.{ℕ, _<_}
 use mathlib.Core.Path.{_≡_, refl, sym, ap, _∙_}
 use mathlib.Core.List.{List}
-use mathlib.Core.Bool.{Bool, true, false, not, _||_, false≢true}
+use mathlib.Core.Bool.{Bool, true, false, _||_}
 use lib.Dec.{eqb}
-use lib.ListN.{length, drop}
+use lib.ListN.{length}
 use borrow.Author.Tests.{eqb-true, eqb-false, eq-eqb}
-use Rattle.answers.specs.Checks.{pick, anyOf, failsOf}
+use Rattle.answers.specs.Checks.{pick, anyOf, failsOf, Passes}
 use Rattle.answers.proofs.InOrder.{fails-then, fails-leaves}
-use Rattle.tables.specs.Table.{placesIn, tableChecks, Good}
-use Rattle.records.specs.Record.{placeIn}
-use Rattle.rules.specs.Cell.{wrongPage, pageLength, cell, setCell}
-use Rattle.rules.specs.Taking.{names, claims, badCell, takeRest, takeChecks, takeInto, takeLeaves, refusals, arriveCell}
-use Rattle.rules.proofs.Cells.{length-cell, length-set, cell-set-same, cell-set-other, page-ext}
+use Rattle.tables.specs.Table.{placesIn}
+use Rattle.records.specs.Record.{recordLength, placeIn}
+use Rattle.layout.proofs.Cells.{length-record, length-set-cell, cell-set-same, cell-set-other, page-ext}
+use Rattle.layout.specs.Layout.{Cell, cellAt, setCell}
+use Rattle.rules.specs.Taking.{namesPlace, claims, badCell, pageChecks, takeRest, takeChecks, takeInto, takeLeaves, refusals, arriveCell}
 use Rattle.rules.proofs.CellRule.{length-arrives, bad-stays, arrives-two}
 use Rattle.rules.proofs.Claims.{Claims, claim?, claim-is, is-claim, no-claim, claims-own, nextCell, claimed-leaves, claimed-refusals, none-leaves, none-refusals}
+use Rattle.rules.proofs.Pages.{page-passes, page-good, page-size}
 
 -- a record that claims a place names it
-pub claim-names : (t x : List ℕ) (p : ℕ) → claims t x p ≡ true → names x p ≡ true
+pub claim-names : (t x : List ℕ) (p : ℕ) → claims t x p ≡ true → namesPlace x p ≡ true
 claim-names t x p e = eq-eqb (placeIn x) p (claim-is t x p e .named)
 
-module _ (t : List ℕ) (good : Good t) where
-  module _ (pg : List ℕ) (size : length pg ≡ pageLength (placesIn t)) (x : List ℕ) where
+module _ (t : List ℕ) where
+  module _ (pg : List ℕ) (ready : Passes (pageChecks t pg)) (x : List ℕ) where
     -- by whether it claims the place that it names
     module _ (own : Claims t x (placeIn x)) where
-      made-length : length (arriveCell (placeIn x) x (cell pg (placeIn x))) ≡ 9
+      made-length : length (arriveCell (placeIn x) x (cellAt pg (placeIn x)) .bytes) ≡ recordLength
       made-length =
-          length-arrives (placeIn x) x (cell pg (placeIn x)) (own .eight) (length-cell (placesIn t) pg size (placeIn x) (own .inside))
+          length-arrives (placeIn x) x (cellAt pg (placeIn x)) (own .eight) (length-record (placesIn t) pg (page-size t pg ready) (placeIn x) (own .inside))
 
       claimed-size : length (takeLeaves t pg x) ≡ length pg
       claimed-size =
-          ap length (claimed-leaves t good pg size x (placeIn x) own)
-          ∙ length-set (placesIn t) pg size (placeIn x) (own .inside) (arriveCell (placeIn x) x (cell pg (placeIn x))) made-length
+          ap length (claimed-leaves t pg ready x (placeIn x) own)
+          ∙ length-set-cell (placesIn t) pg (page-size t pg ready) (placeIn x) (own .inside) (arriveCell (placeIn x) x (cellAt pg (placeIn x))) made-length
 
-      claimed-cell : (q : ℕ) → q < placesIn t → cell (takeLeaves t pg x) q ≡ nextCell t q x (cell pg q)
-      claimed-cell q h = ap (λ (page : List ℕ). cell page q) (claimed-leaves t good pg size x (placeIn x) own) ∙ go (eqb (placeIn x) q) refl
+      claimed-cell : (q : ℕ) → q < placesIn t → cellAt (takeLeaves t pg x) q ≡ nextCell t q x (cellAt pg q)
+      claimed-cell q h = ap (λ (page : List ℕ). cellAt page q) (claimed-leaves t pg ready x (placeIn x) own) ∙ go (eqb (placeIn x) q) refl
         where
-          made : List ℕ
-          made = arriveCell (placeIn x) x (cell pg (placeIn x))
+          made : Cell
+          made = arriveCell (placeIn x) x (cellAt pg (placeIn x))
 
-          go : (b : Bool) → eqb (placeIn x) q ≡ b → cell (setCell pg (placeIn x) made) q ≡ nextCell t q x (cell pg q)
+          go : (b : Bool) → eqb (placeIn x) q ≡ b → cellAt (setCell pg (placeIn x) made) q ≡ nextCell t q x (cellAt pg q)
           go true e =
               let same = eqb-true (placeIn x) q e in
-              rw (← same) (cell-set-same (placesIn t) pg size (placeIn x) (own .inside) made made-length ∙ rw (is-claim t x (placeIn x) own) refl)
+              rw (← same) (cell-set-same (placesIn t) pg (page-size t pg ready) (placeIn x) (own .inside) made made-length ∙ rw (is-claim t x (placeIn x) own) refl)
           go false e =
               let apart = eqb-false (placeIn x) q e in
-              cell-set-other (placesIn t) pg size (placeIn x) (own .inside) made made-length q h (λ s. apart (sym s))
+              cell-set-other (placesIn t) pg (page-size t pg ready) (placeIn x) (own .inside) made made-length q h (λ s. apart (sym s))
               ∙ rw (no-claim t x q (λ c. apart (c .named))) refl
 
     -- the page keeps its length
@@ -55,28 +56,32 @@ module _ (t : List ℕ) (good : Good t) where
       where
         go : Dec (Claims t x (placeIn x)) → length (takeLeaves t pg x) ≡ length pg
         go (yes own) = claimed-size own
-        go (no none) = ap length (none-leaves t good pg size x none)
+        go (no none) = ap length (none-leaves t pg ready x none)
 
     -- the cell that is claimed goes by the page rule, and the others are as they were
-    pub taken-cell : (q : ℕ) → q < placesIn t → cell (takeLeaves t pg x) q ≡ nextCell t q x (cell pg q)
+    pub taken-cell : (q : ℕ) → q < placesIn t → cellAt (takeLeaves t pg x) q ≡ nextCell t q x (cellAt pg q)
     taken-cell q h = go (claim? t x (placeIn x))
       where
-        go : Dec (Claims t x (placeIn x)) → cell (takeLeaves t pg x) q ≡ nextCell t q x (cell pg q)
+        go : Dec (Claims t x (placeIn x)) → cellAt (takeLeaves t pg x) q ≡ nextCell t q x (cellAt pg q)
         go (yes own) = claimed-cell own q h
         go (no none) =
-            ap (λ (page : List ℕ). cell page q) (none-leaves t good pg size x none) ∙ rw (no-claim t x q (λ c. none (claims-own t x q c))) refl
+            ap (λ (page : List ℕ). cellAt page q) (none-leaves t pg ready x none) ∙ rw (no-claim t x q (λ c. none (claims-own t x q c))) refl
 
     -- whether a cell is refused does not change
-    pub bad-unmoved : (q : ℕ) → q < placesIn t → badCell q (cell (takeLeaves t pg x) q) ≡ badCell q (cell pg q)
+    pub bad-unmoved : (q : ℕ) → q < placesIn t → badCell q (cellAt (takeLeaves t pg x) q) ≡ badCell q (cellAt pg q)
     bad-unmoved q h = ap (badCell q) (taken-cell q h) ∙ go (claims t x q) refl
       where
-        go : (b : Bool) → claims t x q ≡ b → badCell q (pick b (arriveCell q x (cell pg q)) (cell pg q)) ≡ badCell q (cell pg q)
-        go true e = bad-stays q x (cell pg q) (claim-names t x q e)
+        go : (b : Bool) → claims t x q ≡ b → badCell q (pick b (arriveCell q x (cellAt pg q)) (cellAt pg q)) ≡ badCell q (cellAt pg q)
+        go true e = bad-stays q x (cellAt pg q) (claim-names t x q e)
         go false e = refl
 
-  module _ (pg : List ℕ) (size : length pg ≡ pageLength (placesIn t)) (x y : List ℕ) where
-    size-then : length (takeLeaves t pg y) ≡ pageLength (placesIn t)
-    size-then = taken-size pg size y ∙ size
+  -- and still takes records
+  pub ready-after : (pg : List ℕ) → Passes (pageChecks t pg) → (x : List ℕ) → Passes (pageChecks t (takeLeaves t pg x))
+  ready-after pg ready x = page-passes t (takeLeaves t pg x) (page-good t pg ready) (taken-size pg ready x ∙ page-size t pg ready)
+
+  module _ (pg : List ℕ) (ready : Passes (pageChecks t pg)) (x y : List ℕ) where
+    ready-then : Passes (pageChecks t (takeLeaves t pg y))
+    ready-then = ready-after pg ready y
 
     -- one take decides of no other whether it is refused
     pub refusals-unmoved : refusals t (takeLeaves t pg y) x ≡ refusals t pg x
@@ -84,16 +89,16 @@ module _ (t : List ℕ) (good : Good t) where
       where
         go : Dec (Claims t x (placeIn x)) → refusals t (takeLeaves t pg y) x ≡ refusals t pg x
         go (yes own) =
-            claimed-refusals t good (takeLeaves t pg y) size-then x (placeIn x) own
-            ∙ ap (λ (b : Bool). pick {A = ℕ} b 1 0) (bad-unmoved pg size y (placeIn x) (own .inside))
-            ∙ sym (claimed-refusals t good pg size x (placeIn x) own)
-        go (no none) = none-refusals t good (takeLeaves t pg y) size-then x none ∙ sym (none-refusals t good pg size x none)
+            claimed-refusals t (takeLeaves t pg y) ready-then x (placeIn x) own
+            ∙ ap (λ (b : Bool). pick {A = ℕ} b 1 0) (bad-unmoved pg ready y (placeIn x) (own .inside))
+            ∙ sym (claimed-refusals t pg ready x (placeIn x) own)
+        go (no none) = none-refusals t (takeLeaves t pg y) ready-then x none ∙ sym (none-refusals t pg ready x none)
 
     -- a cell after both
-    cell-two : (q : ℕ) → q < placesIn t → cell (takeLeaves t (takeLeaves t pg y) x) q ≡ nextCell t q x (nextCell t q y (cell pg q))
-    cell-two q h = taken-cell (takeLeaves t pg y) size-then x q h ∙ ap (nextCell t q x) (taken-cell pg size y q h)
+    cell-two : (q : ℕ) → q < placesIn t → cellAt (takeLeaves t (takeLeaves t pg y) x) q ≡ nextCell t q x (nextCell t q y (cellAt pg q))
+    cell-two q h = taken-cell (takeLeaves t pg y) ready-then x q h ∙ ap (nextCell t q x) (taken-cell pg ready y q h)
 
-  next-two : (q : ℕ) (x y c : List ℕ) → nextCell t q x (nextCell t q y c) ≡ nextCell t q y (nextCell t q x c)
+  next-two : (q : ℕ) (x y : List ℕ) (c : Cell) → nextCell t q x (nextCell t q y c) ≡ nextCell t q y (nextCell t q x c)
   next-two q x y c = go (claims t x q) (claims t y q) refl refl
     where
       go : (a b : Bool) → claims t x q ≡ a → claims t y q ≡ b
@@ -104,26 +109,19 @@ module _ (t : List ℕ) (good : Good t) where
       go false true e f = refl
       go false false e f = refl
 
-  pub pages-two : (pg : List ℕ) → length pg ≡ pageLength (placesIn t) → (x y : List ℕ)
-      → takeLeaves t (takeLeaves t pg x) y ≡ takeLeaves t (takeLeaves t pg y) x
-  pages-two pg size x y =
+  pub pages-two : (pg : List ℕ) → Passes (pageChecks t pg) → (x y : List ℕ) → takeLeaves t (takeLeaves t pg x) y ≡ takeLeaves t (takeLeaves t pg y) x
+  pages-two pg ready x y =
+      let then-x = ready-after pg ready x in
+      let then-y = ready-after pg ready y in
       page-ext (placesIn t) (takeLeaves t (takeLeaves t pg x) y) (takeLeaves t (takeLeaves t pg y) x)
-      (taken-size (takeLeaves t pg x) (size-then pg size y x) y ∙ size-then pg size y x)
-      (taken-size (takeLeaves t pg y) (size-then pg size x y) x ∙ size-then pg size x y)
-      (λ q h. cell-two pg size y x q h ∙ next-two q y x (cell pg q) ∙ sym (cell-two pg size x y q h))
+      (taken-size (takeLeaves t pg x) then-x y ∙ page-size t (takeLeaves t pg x) then-x)
+      (taken-size (takeLeaves t pg y) then-y x ∙ page-size t (takeLeaves t pg y) then-y)
+      (λ q h. cell-two pg ready y x q h ∙ next-two q y x (cellAt pg q) ∙ sym (cell-two pg ready x y q h))
 
 -- a bad table or a page of another length: every take is refused, and nothing changes
-module _ (t pg : List ℕ) (shut : anyOf (failsOf (tableChecks t)) || wrongPage (placesIn t) (length pg) ≡ true) where
+module _ (t pg : List ℕ) (shut : anyOf (failsOf (pageChecks t pg)) ≡ true) where
   shut-fails : (x : List ℕ) → anyOf (failsOf (takeChecks t pg x)) ≡ true
-  shut-fails x =
-      fails-then (tableChecks t) (takeRest t pg x)
-      ∙ go (anyOf (failsOf (tableChecks t))) (wrongPage (placesIn t) (length pg)) (not (eqb (length x) 8)) (anyOf (failsOf (drop 1 (takeRest t pg x)))) shut
-    where
-      go : (a b c d : Bool) → a || b ≡ true → a || (c || (b || false) || d) ≡ true
-      go true b c d e = refl
-      go false true true d e = refl
-      go false true false d e = refl
-      go false false c d e = absurd (false≢true e)
+  shut-fails x = fails-then (pageChecks t pg) (takeRest t pg x) ∙ rw shut refl
 
   pub shut-leaves : (x : List ℕ) → takeLeaves t pg x ≡ pg
   shut-leaves x = fails-leaves (takeInto pg x) pg (takeChecks t pg x) (shut-fails x)

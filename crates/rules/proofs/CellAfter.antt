@@ -5,43 +5,47 @@ use mathlib.Core.Path.{_≡_, refl, sym, ap, _∙_}
 use mathlib.Core.List.{List, [], _∷_, List·Memᴰ, List·Memᴰ·head, List·Memᴰ·tail, List·Memᴰ·cases-cons, List·Memᴰ·not-nil}
 use mathlib.Core.Bool.{Bool, true, false, false≢true}
 use mathlib.Core.Logic.{⊎-elim}
-use lib.ListN.{length}
-use Rattle.answers.specs.Checks.{pick}
-use Rattle.tables.specs.Table.{placesIn, Good}
-use Rattle.rules.specs.Cell.{pageLength, cell, stateOf, heldCell, contestedCell, sameBytes}
-use Rattle.rules.specs.Taking.{claims, badCell, Received, arrive, after, arriveCell, Nobody, AllEqual}
-use Rattle.rules.proofs.CellRule.{same-bytes, bytes-same, bytes-differ, differ-bytes, takes-empty, takes-held, takes-contested}
+use Rattle.answers.specs.Checks.{pick, Passes}
+use Rattle.tables.specs.Table.{placesIn}
+use Rattle.records.proofs.Same.{same-bytes, bytes-same, bytes-differ, differ-bytes}
+use Rattle.records.specs.Record.{sameBytes}
+use Rattle.layout.specs.Layout.{Cell, cellAt}
+use Rattle.rules.specs.Taking.{claims, heldCell, contestedCell, badCell, pageChecks, Received, arrive, after, arriveCell, Nobody, AllEqual}
+use Rattle.rules.proofs.CellRule.{takes-empty, takes-held, takes-contested}
 use Rattle.rules.proofs.Claims.{nextCell}
-use Rattle.rules.proofs.Arrivals.{claim-names, taken-size, taken-cell}
+use Rattle.rules.proofs.Arrivals.{claim-names, taken-cell, ready-after}
 
 -- the cell c of place p, after xs
-unfoldable pub cellAfter : List ℕ → ℕ → List ℕ → List (List ℕ) → List ℕ
+unfoldable pub cellAfter : List ℕ → ℕ → Cell → List (List ℕ) → Cell
 cellAfter t p c [] = c
 cellAfter t p c (x ∷ xs) = cellAfter t p (nextCell t p x c) xs
 
-module _ (t : List ℕ) (good : Good t) where
-  pub after-size : (s : Received) (xs : List (List ℕ)) → length (s .page) ≡ pageLength (placesIn t) → length (after t s xs .page) ≡ pageLength (placesIn t)
+module _ (t : List ℕ) where
+  pub after-ready : (s : Received) (xs : List (List ℕ)) → Passes (pageChecks t (s .page)) → Passes (pageChecks t (after t s xs .page))
   unfolding after arrive
-  after-size s [] size = size
-  after-size s (x ∷ xs) size = after-size (arrive t s x) xs (taken-size t good (s .page) size x ∙ size)
+  after-ready s [] ready = ready
+  after-ready s (x ∷ xs) ready = after-ready (arrive t s x) xs (ready-after t (s .page) ready x)
 
-  pub cell-after : (s : Received) (xs : List (List ℕ)) → length (s .page) ≡ pageLength (placesIn t) → (p : ℕ) → p < placesIn t
-      → cell (after t s xs .page) p ≡ cellAfter t p (cell (s .page) p) xs
+  pub cell-after : (s : Received) (xs : List (List ℕ)) → Passes (pageChecks t (s .page)) → (p : ℕ) → p < placesIn t
+      → cellAt (after t s xs .page) p ≡ cellAfter t p (cellAt (s .page) p) xs
   unfolding after arrive cellAfter
-  cell-after s [] size p h = refl
-  cell-after s (x ∷ xs) size p h =
-      cell-after (arrive t s x) xs (taken-size t good (s .page) size x ∙ size) p h
-      ∙ ap (λ (c : List ℕ). cellAfter t p c xs) (taken-cell t good (s .page) size x p h)
+  cell-after s [] ready p h = refl
+  cell-after s (x ∷ xs) ready p h =
+      cell-after (arrive t s x) xs (ready-after t (s .page) ready x) p h
+      ∙ ap (λ (c : Cell). cellAfter t p c xs) (taken-cell t (s .page) ready x p h)
 
 -- ---- one arrival
+empty-not-bad : (p : ℕ) (c : Cell) → c .state ≡ 0 → badCell p c ≡ false
+unfolding badCell
+empty-not-bad p c s = rw s refl
+
 module _ (t : List ℕ) (p : ℕ) (x : List ℕ) where
-  pub passes-by : (c : List ℕ) → claims t x p ≡ false → nextCell t p x c ≡ c
+  pub passes-by : (c : Cell) → claims t x p ≡ false → nextCell t p x c ≡ c
   passes-by c e = rw e refl
 
   module _ (e : claims t x p ≡ true) where
-    fills : (c : List ℕ) → stateOf c ≡ 0 → nextCell t p x c ≡ heldCell x
-    unfolding badCell
-    fills c s = rw (e, s) (takes-empty x c s)
+    fills : (c : Cell) → c .state ≡ 0 → nextCell t p x c ≡ heldCell x
+    fills c s = rw (e, empty-not-bad p c s) (takes-empty x c s)
 
     again : nextCell t p x (heldCell x) ≡ heldCell x
     unfolding badCell
@@ -61,11 +65,11 @@ module _ (t : List ℕ) (p : ℕ) (x : List ℕ) where
 
 -- ---- any list of them
 module _ (t : List ℕ) (p : ℕ) where
-  pub nobody : (xs : List (List ℕ)) (c : List ℕ) → Nobody t xs p → cellAfter t p c xs ≡ c
+  pub nobody : (xs : List (List ℕ)) (c : Cell) → Nobody t xs p → cellAfter t p c xs ≡ c
   unfolding cellAfter
   nobody [] c none = refl
   nobody (x ∷ xs) c none =
-      ap (λ (d : List ℕ). cellAfter t p d xs) (passes-by t p x c (none x (List·Memᴰ·head refl)))
+      ap (λ (d : Cell). cellAfter t p d xs) (passes-by t p x c (none x (List·Memᴰ·head refl)))
       ∙ nobody xs c (λ z m. none z (List·Memᴰ·tail m))
 
   -- what is not the first stands behind it; and one that claims p is not one that does not
@@ -86,13 +90,13 @@ module _ (t : List ℕ) (p : ℕ) where
   keeps : (xs : List (List ℕ)) (y : List ℕ) → AllEqual t xs p y → cellAfter t p (heldCell y) xs ≡ heldCell y
   unfolding cellAfter
   keeps [] y all = refl
-  keeps (x ∷ xs) y all = ap (λ (d : List ℕ). cellAfter t p d xs) (by-claim x claimed (passes-by t p x (heldCell y))) ∙ keeps xs y (λ z m. all z (List·Memᴰ·tail m))
+  keeps (x ∷ xs) y all = ap (λ (d : Cell). cellAfter t p d xs) (by-claim x claimed (passes-by t p x (heldCell y))) ∙ keeps xs y (λ z m. all z (List·Memᴰ·tail m))
     where
       claimed : claims t x p ≡ true → nextCell t p x (heldCell y) ≡ heldCell y
       claimed e = let same = all x (List·Memᴰ·head refl) e in rw (← same) (again t p x e)
 
   -- all that claim p are equal to y, which is among them
-  pub all-equal : (xs : List (List ℕ)) (c y : List ℕ) → stateOf c ≡ 0 → List·Memᴰ y xs → claims t y p ≡ true → AllEqual t xs p y → cellAfter t p c xs ≡ heldCell y
+  pub all-equal : (xs : List (List ℕ)) (c : Cell) (y : List ℕ) → c .state ≡ 0 → List·Memᴰ y xs → claims t y p ≡ true → AllEqual t xs p y → cellAfter t p c xs ≡ heldCell y
   unfolding cellAfter
   all-equal [] c y s m e all = absurd (List·Memᴰ·not-nil m)
   all-equal (x ∷ xs) c y s m e all = by-claim x claimed (λ f. passed f (all-equal xs c y s))
@@ -103,18 +107,18 @@ module _ (t : List ℕ) (p : ℕ) where
       claimed : claims t x p ≡ true → cellAfter t p (nextCell t p x c) xs ≡ heldCell y
       claimed f =
           let same = all x (List·Memᴰ·head refl) f in
-          ap (λ (d : List ℕ). cellAfter t p d xs) (fills t p x f c s ∙ ap heldCell same) ∙ keeps xs y rest
+          ap (λ (d : Cell). cellAfter t p d xs) (fills t p x f c s ∙ ap heldCell same) ∙ keeps xs y rest
 
       passed : claims t x p ≡ false → (List·Memᴰ y xs → claims t y p ≡ true → AllEqual t xs p y → cellAfter t p c xs ≡ heldCell y)
           → cellAfter t p (nextCell t p x c) xs ≡ heldCell y
       passed f below =
-          ap (λ (d : List ℕ). cellAfter t p d xs) (passes-by t p x c f)
+          ap (λ (d : Cell). cellAfter t p d xs) (passes-by t p x c f)
           ∙ below (behind y x xs (apart-from y x e f) m) e rest
 
   contested-for-good : (xs : List (List ℕ)) → cellAfter t p contestedCell xs ≡ contestedCell
   unfolding cellAfter
   contested-for-good [] = refl
-  contested-for-good (x ∷ xs) = ap (λ (d : List ℕ). cellAfter t p d xs) (stays-contested t p x) ∙ contested-for-good xs
+  contested-for-good (x ∷ xs) = ap (λ (d : Cell). cellAfter t p d xs) (stays-contested t p x) ∙ contested-for-good xs
 
   -- a record that differs from the one that is held
   disputed : (xs : List (List ℕ)) (y z : List ℕ) → claims t y p ≡ true → List·Memᴰ z xs → claims t z p ≡ true → (y ≡ z → ⊥)
@@ -128,20 +132,20 @@ module _ (t : List ℕ) (p : ℕ) where
           → cellAfter t p (nextCell t p x (heldCell y)) xs ≡ contestedCell
       claimed g true h below =
           let same = bytes-same y x h in
-          ap (λ (d : List ℕ). cellAfter t p d xs) (ap (λ (u : List ℕ). nextCell t p x (heldCell u)) same ∙ again t p x g ∙ ap heldCell (sym same))
+          ap (λ (d : Cell). cellAfter t p d xs) (ap (λ (u : List ℕ). nextCell t p x (heldCell u)) same ∙ again t p x g ∙ ap heldCell (sym same))
           ∙ below (behind z x xs (λ other. apart (same ∙ other)) m)
       claimed g false h below =
-          ap (λ (d : List ℕ). cellAfter t p d xs) (disputes t p x g y e (differ-bytes y x h))
+          ap (λ (d : Cell). cellAfter t p d xs) (disputes t p x g y e (differ-bytes y x h))
           ∙ contested-for-good xs
 
       passed : claims t x p ≡ false → (List·Memᴰ z xs → cellAfter t p (heldCell y) xs ≡ contestedCell)
           → cellAfter t p (nextCell t p x (heldCell y)) xs ≡ contestedCell
       passed g below =
-          ap (λ (d : List ℕ). cellAfter t p d xs) (passes-by t p x (heldCell y) g)
+          ap (λ (d : Cell). cellAfter t p d xs) (passes-by t p x (heldCell y) g)
           ∙ below (behind z x xs (apart-from z x f g) m)
 
   -- two that claim p differ
-  pub two-differ : (xs : List (List ℕ)) (c y z : List ℕ) → stateOf c ≡ 0 → List·Memᴰ y xs → claims t y p ≡ true → List·Memᴰ z xs → claims t z p ≡ true
+  pub two-differ : (xs : List (List ℕ)) (c : Cell) (y z : List ℕ) → c .state ≡ 0 → List·Memᴰ y xs → claims t y p ≡ true → List·Memᴰ z xs → claims t z p ≡ true
       → (y ≡ z → ⊥) → cellAfter t p c xs ≡ contestedCell
   unfolding cellAfter
   two-differ [] c y z s m e n f apart = absurd (List·Memᴰ·not-nil m)
@@ -158,10 +162,10 @@ module _ (t : List ℕ) (p : ℕ) where
           disputed xs x y g (behind y x xs other m) e other
 
       claimed : claims t x p ≡ true → cellAfter t p (nextCell t p x c) xs ≡ contestedCell
-      claimed g = ap (λ (d : List ℕ). cellAfter t p d xs) (fills t p x g c s) ∙ after-first g (sameBytes x y) refl
+      claimed g = ap (λ (d : Cell). cellAfter t p d xs) (fills t p x g c s) ∙ after-first g (sameBytes x y) refl
 
       passed : claims t x p ≡ false → (List·Memᴰ y xs → List·Memᴰ z xs → cellAfter t p c xs ≡ contestedCell)
           → cellAfter t p (nextCell t p x c) xs ≡ contestedCell
       passed g below =
-          ap (λ (d : List ℕ). cellAfter t p d xs) (passes-by t p x c g)
+          ap (λ (d : Cell). cellAfter t p d xs) (passes-by t p x c g)
           ∙ below (behind y x xs (apart-from y x e g) m) (behind z x xs (apart-from z x f g) n)

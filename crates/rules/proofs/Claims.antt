@@ -7,25 +7,26 @@ use mathlib.Core.Bool.{Bool, true, false, not, _&&_, _||_, false≢true}
 use lib.Dec.{eqb}
 use lib.ListN.{length}
 use borrow.Author.Tests.{eqb-true, leb-false, lt-leb, eq-eqb}
-use Rattle.answers.specs.Checks.{pick, anyOf, failsOf, leaves}
+use Rattle.answers.specs.Checks.{pick, anyOf, failsOf, leaves, Passes}
 use Rattle.answers.proofs.InOrder.{fails-then, fails-leaves, passes-fails, passed-leaves}
-use Rattle.tables.specs.Table.{placesIn, tableChecks, noSuchPlace, Good}
-use Rattle.records.specs.Record.{placeIn}
-use Rattle.rules.specs.Cell.{wrongPage, pageLength, cell, setCell}
-use Rattle.rules.specs.Taking.{names, claims, badCell, takeCell, takeRest, takeChecks, takeInto, takeLeaves, refusals, arriveCell}
-use Rattle.rules.proofs.Cells.{set-back}
+use Rattle.tables.specs.Table.{placesIn, noSuchPlace}
+use Rattle.records.specs.Record.{recordLength, placeIn}
+use Rattle.layout.proofs.Cells.{set-back}
+use Rattle.layout.specs.Layout.{Cell, cellAt, setCell}
+use Rattle.rules.specs.Taking.{namesPlace, claims, badCell, takeCell, pageChecks, takeRest, takeChecks, takeInto, takeLeaves, refusals, arriveCell}
+use Rattle.rules.proofs.Pages.{page-size}
 
 -- a claim, field by field
 pub record Claims (t x : List ℕ) (p : ℕ) : Type 0 where
-  pub eight : length x ≡ 8
+  pub eight : length x ≡ recordLength
   pub named : placeIn x ≡ p
   pub inside : p < placesIn t
 
 pub claim-is : (t x : List ℕ) (p : ℕ) → claims t x p ≡ true → Claims t x p
 unfolding claims
-claim-is t x p e = go (eqb (length x) 8) (names x p) (noSuchPlace t p) refl refl refl e
+claim-is t x p e = go (eqb (length x) 8) (namesPlace x p) (noSuchPlace t p) refl refl refl e
   where
-    go : (a b c : Bool) → eqb (length x) 8 ≡ a → names x p ≡ b → noSuchPlace t p ≡ c → a && b && not c ≡ true → Claims t x p
+    go : (a b c : Bool) → eqb (length x) 8 ≡ a → namesPlace x p ≡ b → noSuchPlace t p ≡ c → a && b && not c ≡ true → Claims t x p
     go true true false p1 p2 p3 h =
         record { eight = eqb-true (length x) 8 p1; named = eqb-true (placeIn x) p p2; inside = leb-false (placesIn t) p p3 }
     go true true true p1 p2 p3 h = absurd (false≢true h)
@@ -55,36 +56,32 @@ pub claims-own : (t x : List ℕ) (p : ℕ) → Claims t x p → Claims t x (pla
 claims-own t x p c = rw (c .named) c
 
 -- what taking x makes of the cell c of place p
-abbrev pub nextCell : List ℕ → ℕ → List ℕ → List ℕ → List ℕ
+abbrev pub nextCell : List ℕ → ℕ → List ℕ → Cell → Cell
 nextCell t p x c = pick (claims t x p) (arriveCell p x c) c
 
--- a page of the right length
-pub right-page : (t pg : List ℕ) → length pg ≡ pageLength (placesIn t) → wrongPage (placesIn t) (length pg) ≡ false
-right-page t pg size = rw (eq-eqb (length pg) (pageLength (placesIn t)) size) refl
-
-module _ (t : List ℕ) (good : Good t) (pg : List ℕ) (size : length pg ≡ pageLength (placesIn t)) (x : List ℕ) where
+-- a table and a page that take records
+module _ (t pg : List ℕ) (ready : Passes (pageChecks t pg)) (x : List ℕ) where
   leaves-rest : takeLeaves t pg x ≡ leaves (takeRest t pg x) (takeInto pg x) pg
-  leaves-rest = sym (passed-leaves (tableChecks t) (takeRest t pg x) (takeInto pg x) pg good)
+  leaves-rest = sym (passed-leaves (pageChecks t pg) (takeRest t pg x) (takeInto pg x) pg ready)
 
   fails-rest : anyOf (failsOf (takeChecks t pg x)) ≡ anyOf (failsOf (takeRest t pg x))
-  fails-rest = fails-then (tableChecks t) (takeRest t pg x) ∙ rw (passes-fails (tableChecks t) good) refl
+  fails-rest = fails-then (pageChecks t pg) (takeRest t pg x) ∙ rw (passes-fails (pageChecks t pg) ready) refl
 
   -- a record that claims a place
   module _ (p : ℕ) (c : Claims t x p) where
-    pub claimed-leaves : takeLeaves t pg x ≡ setCell pg p (arriveCell p x (cell pg p))
+    pub claimed-leaves : takeLeaves t pg x ≡ setCell pg p (arriveCell p x (cellAt pg p))
     claimed-leaves =
-        leaves-rest
-        ∙ rw (c .named, eq-eqb (length x) 8 (c .eight), right-page t pg size, lt-leb (placesIn t) p (c .inside)) (go (badCell p (cell pg p)))
+        leaves-rest ∙ rw (c .named, eq-eqb (length x) 8 (c .eight), lt-leb (placesIn t) p (c .inside)) (go (badCell p (cellAt pg p)))
       where
-        go : (b : Bool) → pick b pg (setCell pg p (takeCell x (cell pg p))) ≡ setCell pg p (pick b (cell pg p) (takeCell x (cell pg p)))
-        go true = sym (set-back (placesIn t) pg size p (c .inside))
+        go : (b : Bool) → pick b pg (setCell pg p (takeCell x (cellAt pg p))) ≡ setCell pg p (pick b (cellAt pg p) (takeCell x (cellAt pg p)))
+        go true = sym (set-back (placesIn t) pg (page-size t pg ready) p (c .inside))
         go false = refl
 
-    pub claimed-refusals : refusals t pg x ≡ pick (badCell p (cell pg p)) 1 0
+    pub claimed-refusals : refusals t pg x ≡ pick (badCell p (cellAt pg p)) 1 0
     unfolding refusals
     claimed-refusals =
         ap (λ (b : Bool). pick {A = ℕ} b 1 0) fails-rest
-        ∙ rw (c .named, eq-eqb (length x) 8 (c .eight), right-page t pg size, lt-leb (placesIn t) p (c .inside)) (go (badCell p (cell pg p)))
+        ∙ rw (c .named, eq-eqb (length x) 8 (c .eight), lt-leb (placesIn t) p (c .inside)) (go (badCell p (cellAt pg p)))
       where
         go : (b : Bool) → pick {A = ℕ} (b || false) 1 0 ≡ pick b 1 0
         go true = refl
@@ -93,10 +90,10 @@ module _ (t : List ℕ) (good : Good t) (pg : List ℕ) (size : length pg ≡ pa
   -- what claims none
   module _ (none : Claims t x (placeIn x) → ⊥) where
     none-fails : anyOf (failsOf (takeChecks t pg x)) ≡ true
-    none-fails = fails-rest ∙ rw (right-page t pg size) (go (eqb (length x) 8) (noSuchPlace t (placeIn x)) refl refl)
+    none-fails = fails-rest ∙ go (eqb (length x) 8) (noSuchPlace t (placeIn x)) refl refl
       where
         go : (a b : Bool) → eqb (length x) 8 ≡ a → noSuchPlace t (placeIn x) ≡ b
-            → not a || false || (b || (badCell (placeIn x) (cell pg (placeIn x)) || false)) ≡ true
+            → not a || (b || (badCell (placeIn x) (cellAt pg (placeIn x)) || false)) ≡ true
         go true true e f = refl
         go true false e f = absurd (none (record { eight = eqb-true (length x) 8 e; named = refl; inside = leb-false (placesIn t) (placeIn x) f }))
         go false b e f = refl

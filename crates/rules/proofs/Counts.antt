@@ -7,7 +7,6 @@ use native.Mathlib.Omega.{arith}
 use lib.Dec.{eqb}
 use lib.ListN.{length, getD, set}
 use Rattle.answers.specs.Checks.{pick}
-use Rattle.enumeration.specs.Enumeration.{Enumeration}
 use Rattle.enumeration.specs.Point.{sumOf}
 use Rattle.tables.specs.Table.{placesIn}
 use Rattle.rules.specs.Judging.{judgeAt, answerNumber}
@@ -65,5 +64,5 @@ module _ (f : ℕ → ℕ) where
       ap sumOf (sym (counts-next n (f n) refl (below n))) ∙ one-more (countsOf f n) (f n) (below n) ∙ ap suc (counts-sum n below)
 
 -- document 01's five answers share out the places among them
-pub tally-sum : (e : Enumeration) (t pg : List ℕ) → sumOf (tallyOf e t pg) ≡ placesIn t
-tally-sum e t pg = counts-sum (answersIn e t pg) (placesIn t) (λ p. five-answers (judgeAt e t pg p))
+pub tally-sum : (t pg : List ℕ) → sumOf (tallyOf t pg) ≡ placesIn t
+tally-sum t pg = counts-sum (answersIn t pg) (placesIn t) (λ p. five-answers (judgeAt t pg p))

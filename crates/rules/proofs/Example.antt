@@ -6,16 +6,16 @@ use Rattle.counts.specs.Width.{width, bitsFrom}
 use Rattle.enumeration.specs.Product.{patternIndex, shapeOffset, shapeIndex, signIndex, weigh, productIndex}
 use Rattle.enumeration.specs.Reading.{rangeFrom, rangeOf, patternOf, firstMagnitude, shapeLeft, shapeOf, signsOf, pointFrom, pointIn, productPoint}
 use Rattle.floats.specs.Exact.{over256}
-use Rattle.tables.specs.Row.{byteOf, badRadius, badRadii, badRow}
-use Rattle.tables.specs.Table.{placesBefore, rowsBefore}
-use Rattle.rules.specs.Cell.{cell, setCell}
+use Rattle.tables.specs.Row.{byteOf, enumerationOf, badRadius, badRadii, badRow}
+use Rattle.tables.specs.Table.{rowAt, placesBefore, rowsBefore}
+use Rattle.layout.specs.Layout.{stateAt, recordAt, setCell}
 use Rattle.rules.specs.Taking.{claims, badCell, takeCell, refusals, arrive, after, partsFrom}
 use Rattle.rules.specs.Judging.{judgeCodeword, judgeRecord, judge}
 use Rattle.rules.specs.Tallying.{countOf}
 use Rattle.rules.specs.Example.{Example}
 
 pub example : Example
-unfolding toBits round N binomial D S B sumAfter rangeSize rangeStart width bitsFrom patternIndex shapeOffset shapeIndex signIndex weigh productIndex rangeFrom rangeOf patternOf firstMagnitude shapeLeft shapeOf signsOf pointFrom pointIn productPoint over256 byteOf badRadius badRadii badRow placesBefore rowsBefore cell setCell claims badCell takeCell refusals arrive after partsFrom judgeCodeword judgeRecord judge countOf
+unfolding toBits round N binomial D S B sumAfter rangeSize rangeStart width bitsFrom patternIndex shapeOffset shapeIndex signIndex weigh productIndex rangeFrom rangeOf patternOf firstMagnitude shapeLeft shapeOf signsOf pointFrom pointIn productPoint over256 byteOf enumerationOf badRadius badRadii badRow rowAt placesBefore rowsBefore stateAt recordAt setCell claims badCell takeCell refusals arrive after partsFrom judgeCodeword judgeRecord judge countOf
 example =
     record {
       empty-page = refl;
@@ -35,6 +35,10 @@ example =
       garbage-says = refl;
       garbage-stays = refl;
       garbage-taken = refl;
+      bad-state = refl;
+      bad-place = refl;
+      own-place = refl;
+      not-held = refl;
       other-fields = refl;
       sound-says = refl;
       sound-leaves = refl;

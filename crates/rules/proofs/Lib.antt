@@ -9,4 +9,4 @@ pub mod Grown
 pub mod Runs
 pub mod Blocks
 pub mod Shows
-pub mod Cells
+pub mod Pages

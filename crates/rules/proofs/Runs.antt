@@ -3,14 +3,12 @@
 use Prim.Native.Nat.{ℕ, zero, suc, _+_, _-_, _/_, _<_}
 use mathlib.Core.Path.{_≡_, refl, sym, ap, ap₂, _∙_}
 use mathlib.Core.List.{List, [], _∷_}
-use mathlib.Core.Bool.{true, _||_}
+use mathlib.Core.Bool.{true}
 use native.Mathlib.Omega.{arith}
 use native.Mathlib.Nat.{add-zero}
 use lib.ListN.{length, take, drop, length-drop}
 use Rattle.answers.specs.Checks.{anyOf, failsOf}
-use Rattle.tables.specs.Table.{placesIn, tableChecks}
-use Rattle.rules.specs.Cell.{wrongPage}
-use Rattle.rules.specs.Taking.{Received, arrive, after, partsFrom, partsOf}
+use Rattle.rules.specs.Taking.{pageChecks, Received, arrive, after, partsFrom, partsOf}
 use Rattle.rules.proofs.Arrivals.{shut-leaves, shut-refusals}
 
 pub parts-next : (bytes : List ℕ) → 0 < length bytes → partsOf bytes ≡ take 8 bytes ∷ partsOf (drop 8 bytes)
@@ -36,7 +34,7 @@ parts-count bytes = go ((length bytes + 7) / 8) bytes
 abbrev refusedOnly : Received → ℕ → Received
 refusedOnly s n = record { page = s .page; refused = s .refused + n }
 
-pub shut-after : (t : List ℕ) (s : Received) (xs : List (List ℕ)) → anyOf (failsOf (tableChecks t)) || wrongPage (placesIn t) (length (s .page)) ≡ true
+pub shut-after : (t : List ℕ) (s : Received) (xs : List (List ℕ)) → anyOf (failsOf (pageChecks t (s .page))) ≡ true
     → after t s xs ≡ refusedOnly s (length xs)
 unfolding after arrive
 shut-after t s [] shut = ap (λ (n : ℕ). record { page = s .page; refused = n }) (sym (add-zero (s .refused)))

@@ -1,4 +1,4 @@
--- A place that shows a point: its index, mended or not, is below the total of a usable shell of the row, for any enumeration. Assumes nothing.
+-- A place that shows a point: its index, mended or not, names a point of a usable shell of the row, for any lawful enumeration. Assumes nothing.
 use Prim.Native.Nat.{ℕ, zero, suc, _+_, _-_, _^_, _≤_, _<_}
 use mathlib.Core.Path.{_≡_, refl, ap}
 use mathlib.Core.List.{List, _∷_}
@@ -13,13 +13,14 @@ use borrow.Author.Tests.{leb-false, ltb-true, ltb-false}
 use Rattle.answers.specs.Checks.{pick}
 use Rattle.counts.specs.Width.{width}
 use Rattle.counts.proofs.Widths.{width-of-1, width-enough, width-tight}
-use Rattle.enumeration.specs.Enumeration.{Enumeration}
+use Rattle.enumeration.specs.Enumeration.{Enumeration, Lawful, Full}
 use Rattle.enumeration.specs.Point.{OnShell, radiusOf}
 use Rattle.tables.specs.Usable.{IsUsable}
-use Rattle.tables.specs.Row.{lengthOf, radiiOf, radiusAt, GoodRow}
+use Rattle.tables.specs.Row.{lengthOf, radiiOf, radiusAt, enumerationOf, shellTotal, GoodRow}
 use Rattle.records.specs.Record.{rowIn, radiusNumberIn, codewordIn}
-use Rattle.rules.specs.Cell.{stateOf, recordIn, byState}
-use Rattle.rules.specs.Judging.{judgeCodeword, judgeRecord, judge, Shows}
+use Rattle.layout.specs.Layout.{Cell}
+use Rattle.rules.specs.Taking.{byState}
+use Rattle.rules.specs.Judging.{judgeCodeword, judgeRecord, judge, PointNamed, Shows}
 use Rattle.rules.specs.declared.Judged.the-variants as judged
 
 -- a codeword below 2^b and not below the total: the total is not 1, where b is 0
@@ -60,47 +61,49 @@ zeros-sum (suc n) = omega (arith, zeros-sum n)
 some-point : (l k : ℕ) → OnShell (suc l) k (pos k ∷ replicate l (pos 0))
 some-point l k = record { of-length = ap suc (length-replicate l (pos 0)); of-radius = omega (arith, zeros-sum l) }
 
-pub total-positive : (e : Enumeration) (l k : ℕ) → 1 ≤ l → 0 < e .total l k
-total-positive e zero k h = absurd (omega arith)
-total-positive e (suc l) k h = omega (arith, e .index-below (suc l) k (pos k ∷ replicate l (pos 0)) (some-point l k))
+pub total-positive : {e : Enumeration} → Lawful e → (l k : ℕ) → 1 ≤ l → 0 < e .total l k
+total-positive lawful zero k h = absurd (omega arith)
+total-positive lawful (suc l) k h = omega (arith, lawful .index-below (suc l) k (pos k ∷ replicate l (pos 0)) (some-point l k))
 
-module _ (e : Enumeration) (t : List ℕ) (r : ℕ) (row : GoodRow t r) where
-  codeword-shows : (k n : ℕ) → IsUsable (lengthOf t r) k → Shows e (lengthOf t r) (judgeCodeword (e .total (lengthOf t r) k) k n)
+-- in a good row whose enumeration is lawful, and names a point by every index below its total
+module _ (row : List ℕ) (lawful : Lawful (enumerationOf row)) (full : Full (enumerationOf row)) (good : GoodRow row) where
+  named : (k n : ℕ) → IsUsable (lengthOf row) k (shellTotal row k) → n < shellTotal row k → PointNamed row k n
+  named k n usable below = record { usable = usable; below = below; named = full (lengthOf row) k n below }
+
+  codeword-shows : (k n : ℕ) → IsUsable (lengthOf row) k (shellTotal row k) → Shows row (judgeCodeword (shellTotal row k) k n)
   unfolding judgeCodeword
-  codeword-shows k n usable = go (leb (2 ^ width total) n) (ltb n total) refl refl
+  codeword-shows k n usable = go (leb (2 ^ width (shellTotal row k)) n) (ltb n (shellTotal row k)) refl refl
     where
       total : ℕ
-      total = e .total (lengthOf t r) k
+      total = shellTotal row k
 
       go : (a b : Bool) → leb (2 ^ width total) n ≡ a → ltb n total ≡ b
-          → Shows e (lengthOf t r) (pick a (judged.Unreadable 14) (pick b (judged.Sound k n) (judged.Mended k (n - 2 ^ (width total - 1)))))
+          → Shows row (pick a (judged.Unreadable 14) (pick b (judged.Sound k n) (judged.Mended k (n - 2 ^ (width total - 1)))))
       go true b p q = tt
-      go false true p q = record { usable = usable; below = ltb-true n total q }
+      go false true p q = named k n usable (ltb-true n total q)
       go false false p q =
-          record {
-            usable = usable;
-            below = mended-below total n (total-positive e (lengthOf t r) k (row .length-from)) (leb-false (2 ^ width total) n p) (ltb-false n total q);
-          }
+          named k (n - 2 ^ (width total - 1)) usable
+          (mended-below total n (total-positive lawful (lengthOf row) k (good .length-from)) (leb-false (2 ^ width total) n p) (ltb-false n total q))
 
-  record-shows : (y : List ℕ) → Shows e (lengthOf t r) (judgeRecord e t r y)
+  record-shows : (r : ℕ) (y : List ℕ) → Shows row (judgeRecord row r y)
   unfolding judgeRecord
-  record-shows y = go (not (eqb (rowIn y) r)) (leb (radiiOf t r) (radiusNumberIn y)) refl
+  record-shows r y = go (not (eqb (rowIn y) r)) (leb (radiiOf row) (radiusNumberIn y)) refl
     where
       k : ℕ
-      k = radiusAt t r (radiusNumberIn y)
+      k = radiusAt row (radiusNumberIn y)
 
-      go : (a b : Bool) → leb (radiiOf t r) (radiusNumberIn y) ≡ b
-          → Shows e (lengthOf t r) (pick a (judged.Unreadable 9) (pick b (judged.Unreadable 10) (judgeCodeword (e .total (lengthOf t r) k) k (codewordIn y))))
+      go : (a b : Bool) → leb (radiiOf row) (radiusNumberIn y) ≡ b
+          → Shows row (pick a (judged.Unreadable 9) (pick b (judged.Unreadable 10) (judgeCodeword (shellTotal row k) k (codewordIn y))))
       go true b q = tt
       go false true q = tt
-      go false false q = codeword-shows k (codewordIn y) (row .radius-usable (radiusNumberIn y) (leb-false (radiiOf t r) (radiusNumberIn y) q))
+      go false false q = codeword-shows k (codewordIn y) (good .radius-usable (radiusNumberIn y) (leb-false (radiiOf row) (radiusNumberIn y) q))
 
-  -- what a cell shows is the point of an index below the total
-  pub judge-shows : (c : List ℕ) → Shows e (lengthOf t r) (judge e t r c)
+  -- what a cell shows is such a point
+  pub judge-shows : (r : ℕ) (c : Cell) → Shows row (judge row r c)
   unfolding judge
-  judge-shows c = go (stateOf c)
+  judge-shows r c = go (c .state)
     where
-      go : (s : ℕ) → Shows e (lengthOf t r) (byState s judged.Missing (judgeRecord e t r (recordIn c)) judged.Contested)
+      go : (s : ℕ) → Shows row (byState s judged.Missing (judgeRecord row r (c .bytes)) judged.Contested)
       go zero = tt
-      go (suc zero) = record-shows (recordIn c)
+      go (suc zero) = record-shows r (c .bytes)
       go (suc (suc s)) = tt

@@ -8,10 +8,9 @@ use mathlib.Core.Bool.{true, false}
 use lib.Ieee.{binary32, toBits}
 use lib.IntN.{ℤ, pos, negsuc}
 use lib.ListN.{take, drop, replicate}
-use Rattle.enumeration.proofs.Product.{product}
-use Rattle.tables.specs.Example.{wholeCase, twoRows, ofPlaces}
-use Rattle.rules.specs.Cell.{emptyPage}
-use Rattle.rules.specs.Taking.{claims, takeSays, takeLeaves, collected}
+use Rattle.tables.specs.Example.{wholeCase, fullRow, ofPlaces}
+use Rattle.layout.specs.Layout.{Cell, emptyPage}
+use Rattle.rules.specs.Taking.{claims, badCell, takeSays, takeLeaves, collected}
 use Rattle.rules.specs.Judging.{judge}
 use Rattle.rules.specs.Reading.{readSays, readLeaves, coefficientSays, coefficientCarries}
 use Rattle.rules.specs.Tallying.{tallySays}
@@ -20,6 +19,10 @@ use Rattle.rules.specs.declared.Judged.the-variants as judged
 -- a record of that table: place, row, radius number, and the last byte of the codeword
 abbrev pub of : ℕ → ℕ → ℕ → ℕ → List ℕ
 of place row number codeword = 0 ∷ place ∷ row ∷ number ∷ 0 ∷ 0 ∷ 0 ∷ codeword ∷ []
+
+-- a cell with the state 1
+abbrev pub held : List ℕ → Cell
+held y = record { state = 1; bytes = y }
 
 -- the two records, one that differs from the first in its last byte, and the page that holds the two
 abbrev pub first : List ℕ
@@ -104,52 +107,57 @@ pub record Example : Type 0 where
   pub garbage-says : takeSays wholeCase garbled first ≡ 0 ∷ []
   pub garbage-stays : takeLeaves wholeCase garbled second ≡ garbled
   pub garbage-taken : takeSays wholeCase garbled second ≡ 0 ∷ []
+  -- refusal 12 for the cell of place 0: a state above 2, and a record of place 1, which a contested cell may hold
+  pub bad-state : badCell 0 (record { state = 3; bytes = first }) ≡ true
+  pub bad-place : badCell 0 (held second) ≡ true
+  pub own-place : badCell 0 (held first) ≡ false
+  pub not-held : badCell 0 (record { state = 2; bytes = second }) ≡ false
   -- a record with a foreign row, no such radius number and a huge codeword is taken all the same
   pub other-fields : takeLeaves wholeCase (replicate 18 0) (of 0 1 9 255) ≡ 1 ∷ of 0 1 9 255 ++ replicate 9 0
   -- ---- reading
-  pub sound-says : readSays product wholeCase page 0 zeros ≡ 0 ∷ 0 ∷ 0 ∷ []
-  pub sound-leaves : readLeaves product wholeCase page 0 zeros ≡ pos 1 ∷ pos 0 ∷ negsuc 0 ∷ []
-  pub mended-says : readSays product wholeCase page 1 zeros ≡ 0 ∷ 1 ∷ 0 ∷ []
-  pub mended-leaves : readLeaves product wholeCase page 1 zeros ≡ pos 0 ∷ negsuc 0 ∷ pos 1 ∷ []
+  pub sound-says : readSays wholeCase page 0 zeros ≡ 0 ∷ 0 ∷ 0 ∷ []
+  pub sound-leaves : readLeaves wholeCase page 0 zeros ≡ pos 1 ∷ pos 0 ∷ negsuc 0 ∷ []
+  pub mended-says : readSays wholeCase page 1 zeros ≡ 0 ∷ 1 ∷ 0 ∷ []
+  pub mended-leaves : readLeaves wholeCase page 1 zeros ≡ pos 0 ∷ negsuc 0 ∷ pos 1 ∷ []
   -- the other three write zeros into a buffer of nines; so do an empty and a contested cell with bytes in them
-  pub missing-says : readSays product wholeCase (replicate 18 0) 1 nines ≡ 0 ∷ 2 ∷ 0 ∷ []
-  pub missing-leaves : readLeaves product wholeCase (replicate 18 0) 1 nines ≡ zeros
-  pub contested-says : readSays product wholeCase damaged 0 nines ≡ 0 ∷ 3 ∷ 0 ∷ []
-  pub contested-leaves : readLeaves product wholeCase damaged 0 nines ≡ zeros
-  pub unreadable-says : readSays product wholeCase damaged 1 nines ≡ 0 ∷ 4 ∷ 14 ∷ []
-  pub unreadable-leaves : readLeaves product wholeCase damaged 1 nines ≡ zeros
-  pub garbage-missing : readSays product wholeCase garbled 0 nines ≡ 0 ∷ 2 ∷ 0 ∷ []
-  pub garbage-contested : readSays product wholeCase garbled 1 nines ≡ 0 ∷ 3 ∷ 0 ∷ []
+  pub missing-says : readSays wholeCase (replicate 18 0) 1 nines ≡ 0 ∷ 2 ∷ 0 ∷ []
+  pub missing-leaves : readLeaves wholeCase (replicate 18 0) 1 nines ≡ zeros
+  pub contested-says : readSays wholeCase damaged 0 nines ≡ 0 ∷ 3 ∷ 0 ∷ []
+  pub contested-leaves : readLeaves wholeCase damaged 0 nines ≡ zeros
+  pub unreadable-says : readSays wholeCase damaged 1 nines ≡ 0 ∷ 4 ∷ 14 ∷ []
+  pub unreadable-leaves : readLeaves wholeCase damaged 1 nines ≡ zeros
+  pub garbage-missing : readSays wholeCase garbled 0 nines ≡ 0 ∷ 2 ∷ 0 ∷ []
+  pub garbage-contested : readSays wholeCase garbled 1 nines ≡ 0 ∷ 3 ∷ 0 ∷ []
   -- codewords: N - 1, N, 2^b - 1, 2^b; at radius 0, where b is 0, 0 and 1
-  pub codeword-17 : judge product wholeCase 0 (1 ∷ of 0 0 1 17) ≡ judged.Sound 2 17
-  pub codeword-18 : judge product wholeCase 0 (1 ∷ of 0 0 1 18) ≡ judged.Mended 2 2
-  pub codeword-31 : judge product wholeCase 0 (1 ∷ of 0 0 1 31) ≡ judged.Mended 2 15
-  pub codeword-32 : judge product wholeCase 0 (1 ∷ of 0 0 1 32) ≡ judged.Unreadable 14
-  pub codeword-0-0 : judge product wholeCase 0 (1 ∷ of 0 0 0 0) ≡ judged.Sound 0 0
-  pub codeword-0-1 : judge product wholeCase 0 (1 ∷ of 0 0 0 1) ≡ judged.Unreadable 14
+  pub codeword-17 : judge wholeCase 0 (held (of 0 0 1 17)) ≡ judged.Sound 2 17
+  pub codeword-18 : judge wholeCase 0 (held (of 0 0 1 18)) ≡ judged.Mended 2 2
+  pub codeword-31 : judge wholeCase 0 (held (of 0 0 1 31)) ≡ judged.Mended 2 15
+  pub codeword-32 : judge wholeCase 0 (held (of 0 0 1 32)) ≡ judged.Unreadable 14
+  pub codeword-0-0 : judge wholeCase 0 (held (of 0 0 0 0)) ≡ judged.Sound 0 0
+  pub codeword-0-1 : judge wholeCase 0 (held (of 0 0 0 1)) ≡ judged.Unreadable 14
   -- the reasons in their order; a row below the place's is foreign too
-  pub reason-9 : judge product wholeCase 0 (1 ∷ of 0 1 2 99) ≡ judged.Unreadable 9
-  pub reason-9-below : judge product twoRows 1 (1 ∷ of 2 0 1 5) ≡ judged.Unreadable 9
-  pub reason-10 : judge product wholeCase 0 (1 ∷ of 0 0 2 99) ≡ judged.Unreadable 10
+  pub reason-9 : judge wholeCase 0 (held (of 0 1 2 99)) ≡ judged.Unreadable 9
+  pub reason-9-below : judge fullRow 1 (held (of 2 0 1 5)) ≡ judged.Unreadable 9
+  pub reason-10 : judge wholeCase 0 (held (of 0 0 2 99)) ≡ judged.Unreadable 10
   -- ---- one coefficient: 1.0, 0.0 and -1.0; with a step of 775 over 256 the mended ones are 0.0, -3.02734375 and 3.02734375
-  pub coefficient-sound : coefficientSays product wholeCase page 0 0 ≡ 0 ∷ 0 ∷ 0 ∷ []
-  pub values-0 : map (toBits binary32) (coefficientCarries product wholeCase page 0 0) ≡ 1065353216 ∷ []
-  pub values-1 : map (toBits binary32) (coefficientCarries product wholeCase page 0 1) ≡ 0 ∷ []
-  pub values-2 : map (toBits binary32) (coefficientCarries product wholeCase page 0 2) ≡ 3212836864 ∷ []
-  pub coefficient-mended : coefficientSays product step-775 page 1 1 ≡ 0 ∷ 1 ∷ 0 ∷ []
-  pub scaled-0 : map (toBits binary32) (coefficientCarries product step-775 page 1 0) ≡ 0 ∷ []
-  pub scaled-1 : map (toBits binary32) (coefficientCarries product step-775 page 1 1) ≡ 3225534464 ∷ []
-  pub scaled-2 : map (toBits binary32) (coefficientCarries product step-775 page 1 2) ≡ 1078050816 ∷ []
+  pub coefficient-sound : coefficientSays wholeCase page 0 0 ≡ 0 ∷ 0 ∷ 0 ∷ []
+  pub values-0 : map (toBits binary32) (coefficientCarries wholeCase page 0 0) ≡ 1065353216 ∷ []
+  pub values-1 : map (toBits binary32) (coefficientCarries wholeCase page 0 1) ≡ 0 ∷ []
+  pub values-2 : map (toBits binary32) (coefficientCarries wholeCase page 0 2) ≡ 3212836864 ∷ []
+  pub coefficient-mended : coefficientSays step-775 page 1 1 ≡ 0 ∷ 1 ∷ 0 ∷ []
+  pub scaled-0 : map (toBits binary32) (coefficientCarries step-775 page 1 0) ≡ 0 ∷ []
+  pub scaled-1 : map (toBits binary32) (coefficientCarries step-775 page 1 1) ≡ 3225534464 ∷ []
+  pub scaled-2 : map (toBits binary32) (coefficientCarries step-775 page 1 2) ≡ 1078050816 ∷ []
   -- the other three carry none
-  pub coefficient-missing : coefficientSays product wholeCase (replicate 18 0) 0 2 ≡ 0 ∷ 2 ∷ 0 ∷ []
-  pub missing-carries : coefficientCarries product wholeCase (replicate 18 0) 0 2 ≡ []
-  pub coefficient-contested : coefficientSays product wholeCase damaged 0 2 ≡ 0 ∷ 3 ∷ 0 ∷ []
-  pub contested-carries : coefficientCarries product wholeCase damaged 0 2 ≡ []
-  pub coefficient-unreadable : coefficientSays product wholeCase damaged 1 2 ≡ 0 ∷ 4 ∷ 14 ∷ []
-  pub unreadable-carries : coefficientCarries product wholeCase damaged 1 2 ≡ []
+  pub coefficient-missing : coefficientSays wholeCase (replicate 18 0) 0 2 ≡ 0 ∷ 2 ∷ 0 ∷ []
+  pub missing-carries : coefficientCarries wholeCase (replicate 18 0) 0 2 ≡ []
+  pub coefficient-contested : coefficientSays wholeCase damaged 0 2 ≡ 0 ∷ 3 ∷ 0 ∷ []
+  pub contested-carries : coefficientCarries wholeCase damaged 0 2 ≡ []
+  pub coefficient-unreadable : coefficientSays wholeCase damaged 1 2 ≡ 0 ∷ 4 ∷ 14 ∷ []
+  pub unreadable-carries : coefficientCarries wholeCase damaged 1 2 ≡ []
   -- ---- the tally: sound, mended, missing, contested, unreadable
-  pub tallied : tallySays product wholeCase page ≡ 0 ∷ 1 ∷ 1 ∷ 0 ∷ 0 ∷ 0 ∷ []
-  pub tallied-mixed : tallySays product (ofPlaces 0 15) mixed ≡ 0 ∷ 5 ∷ 4 ∷ 3 ∷ 2 ∷ 1 ∷ []
+  pub tallied : tallySays wholeCase page ≡ 0 ∷ 1 ∷ 1 ∷ 0 ∷ 0 ∷ 0 ∷ []
+  pub tallied-mixed : tallySays (ofPlaces 0 15) mixed ≡ 0 ∷ 5 ∷ 4 ∷ 3 ∷ 2 ∷ 1 ∷ []
   -- ---- refusals of take: 7, 4, 8, 12; with two faults at once, the first is told
   pub take-7 : takeSays (take 15 wholeCase) (take 17 page) (take 7 first) ≡ 7 ∷ 0 ∷ []
   pub take-4-short : takeSays wholeCase page (take 7 (of 2 0 1 5)) ≡ 4 ∷ []
@@ -165,26 +173,26 @@ pub record Example : Type 0 where
   pub take-12-state : takeSays wholeCase state-3 first ≡ 12 ∷ []
   pub take-beside-it : takeSays wholeCase second-twice second ≡ 0 ∷ []
   -- ---- of read: 7, 8, 4, 12
-  pub read-7 : readSays product (take 15 wholeCase) (take 17 page) 2 [] ≡ 7 ∷ 0 ∷ []
-  pub read-8 : readSays product wholeCase page 2 zeros ≡ 8 ∷ []
-  pub read-8-first : readSays product wholeCase (take 17 page) 2 [] ≡ 8 ∷ []
-  pub read-4-page-short : readSays product wholeCase (take 17 second-twice) 0 zeros ≡ 4 ∷ []
-  pub read-4-page-long : readSays product wholeCase (page ++ 0 ∷ []) 0 zeros ≡ 4 ∷ []
-  pub read-4-short : readSays product wholeCase second-twice 0 (take 2 zeros) ≡ 4 ∷ []
-  pub read-4-long : readSays product wholeCase page 0 (pos 0 ∷ zeros) ≡ 4 ∷ []
-  pub read-12 : readSays product wholeCase second-twice 0 zeros ≡ 12 ∷ []
-  pub read-12-leaves : readLeaves product wholeCase second-twice 0 nines ≡ nines
+  pub read-7 : readSays (take 15 wholeCase) (take 17 page) 2 [] ≡ 7 ∷ 0 ∷ []
+  pub read-8 : readSays wholeCase page 2 zeros ≡ 8 ∷ []
+  pub read-8-first : readSays wholeCase (take 17 page) 2 [] ≡ 8 ∷ []
+  pub read-4-page-short : readSays wholeCase (take 17 second-twice) 0 zeros ≡ 4 ∷ []
+  pub read-4-page-long : readSays wholeCase (page ++ 0 ∷ []) 0 zeros ≡ 4 ∷ []
+  pub read-4-short : readSays wholeCase second-twice 0 (take 2 zeros) ≡ 4 ∷ []
+  pub read-4-long : readSays wholeCase page 0 (pos 0 ∷ zeros) ≡ 4 ∷ []
+  pub read-12 : readSays wholeCase second-twice 0 zeros ≡ 12 ∷ []
+  pub read-12-leaves : readLeaves wholeCase second-twice 0 nines ≡ nines
   -- ---- of one coefficient: 7, 8, 4, 13, 12; 13 at a missing place too
-  pub coefficient-7 : coefficientSays product (take 15 wholeCase) (take 17 page) 2 3 ≡ 7 ∷ 0 ∷ []
-  pub coefficient-8 : coefficientSays product wholeCase (take 17 page) 2 3 ≡ 8 ∷ []
-  pub coefficient-4 : coefficientSays product wholeCase (take 17 second-twice) 0 3 ≡ 4 ∷ []
-  pub coefficient-13 : coefficientSays product wholeCase second-twice 0 3 ≡ 13 ∷ []
-  pub coefficient-13-missing : coefficientSays product wholeCase (replicate 18 0) 0 3 ≡ 13 ∷ []
-  pub coefficient-12 : coefficientSays product wholeCase second-twice 0 2 ≡ 12 ∷ []
-  pub refused-carries : coefficientCarries product wholeCase second-twice 0 2 ≡ []
+  pub coefficient-7 : coefficientSays (take 15 wholeCase) (take 17 page) 2 3 ≡ 7 ∷ 0 ∷ []
+  pub coefficient-8 : coefficientSays wholeCase (take 17 page) 2 3 ≡ 8 ∷ []
+  pub coefficient-4 : coefficientSays wholeCase (take 17 second-twice) 0 3 ≡ 4 ∷ []
+  pub coefficient-13 : coefficientSays wholeCase second-twice 0 3 ≡ 13 ∷ []
+  pub coefficient-13-missing : coefficientSays wholeCase (replicate 18 0) 0 3 ≡ 13 ∷ []
+  pub coefficient-12 : coefficientSays wholeCase second-twice 0 2 ≡ 12 ∷ []
+  pub refused-carries : coefficientCarries wholeCase second-twice 0 2 ≡ []
   -- ---- of the tally: 7, 4, 12 with the lowest place
-  pub tally-7 : tallySays product (take 15 wholeCase) (take 17 page) ≡ 7 ∷ 0 ∷ []
-  pub tally-4 : tallySays product wholeCase (take 17 state-3) ≡ 4 ∷ []
-  pub tally-4-long : tallySays product wholeCase (page ++ 0 ∷ []) ≡ 4 ∷ []
-  pub tally-12 : tallySays product wholeCase first-twice ≡ 12 ∷ 1 ∷ []
-  pub tally-12-lowest : tallySays product wholeCase (3 ∷ first ++ 3 ∷ second) ≡ 12 ∷ 0 ∷ []
+  pub tally-7 : tallySays (take 15 wholeCase) (take 17 page) ≡ 7 ∷ 0 ∷ []
+  pub tally-4 : tallySays wholeCase (take 17 state-3) ≡ 4 ∷ []
+  pub tally-4-long : tallySays wholeCase (page ++ 0 ∷ []) ≡ 4 ∷ []
+  pub tally-12 : tallySays wholeCase first-twice ≡ 12 ∷ 1 ∷ []
+  pub tally-12-lowest : tallySays wholeCase (3 ∷ first ++ 3 ∷ second) ≡ 12 ∷ 0 ∷ []

@@ -1,19 +1,20 @@
 -- The answer of a place (document 01, "The page": "Reading a place"). One definition, `judge`, gives the answer of a cell; the readers and the
--- tally are that definition. e is any enumeration, t the table's bytes, r the number of a row, c the bytes of a cell. Assumes nothing.
+-- tally are that definition. `row` is the bytes of a row, r its number, c a cell. Assumes nothing.
 use Prim.Native.Nat.{ℕ, _-_, _^_, _<_}
 use mathlib.Core.List.{List}
-use mathlib.Core.Bool.{not}
+use mathlib.Core.Path.{_≡_}
+use mathlib.Core.Bool.{true, not}
 use lib.Dec.{eqb, leb, ltb}
 use lib.IntN.{ℤ, pos}
 use lib.ListN.{replicate}
 use Rattle.answers.specs.Checks.{pick}
 use Rattle.counts.specs.Width.{width}
-use Rattle.enumeration.specs.Enumeration.{Enumeration}
-use Rattle.tables.specs.Row.{lengthOf, radiiOf, radiusAt}
-use Rattle.tables.specs.Table.{rowOf}
+use Rattle.tables.specs.Row.{lengthOf, radiiOf, radiusAt, enumerationOf, shellTotal}
+use Rattle.tables.specs.Table.{rowOf, rowFor}
 use Rattle.tables.specs.Usable.{IsUsable}
 use Rattle.records.specs.Record.{rowIn, radiusNumberIn, codewordIn}
-use Rattle.rules.specs.Cell.{cell, stateOf, recordIn, byState}
+use Rattle.layout.specs.Layout.{Cell, cellAt}
+use Rattle.rules.specs.Taking.{byState}
 use Rattle.rules.specs.declared.Judged.{Judged}
 use Rattle.rules.specs.declared.Judged.the-variants as judged
 
@@ -24,19 +25,19 @@ judgeCodeword total k n =
     (pick (ltb n total) (judged.Sound k n) (judged.Mended k (n - 2 ^ (width total - 1))))
 
 -- row byte not the place's row: unreadable 9; radius number not in that row: unreadable 10
-unfoldable pub judgeRecord : Enumeration → List ℕ → ℕ → List ℕ → Judged
-judgeRecord e t r y =
+unfoldable pub judgeRecord : List ℕ → ℕ → List ℕ → Judged
+judgeRecord row r y =
     pick (not (eqb (rowIn y) r)) (judged.Unreadable 9)
-    (pick (leb (radiiOf t r) (radiusNumberIn y)) (judged.Unreadable 10)
-    (judgeCodeword (e .total (lengthOf t r) (radiusAt t r (radiusNumberIn y))) (radiusAt t r (radiusNumberIn y)) (codewordIn y)))
+    (pick (leb (radiiOf row) (radiusNumberIn y)) (judged.Unreadable 10)
+    (judgeCodeword (shellTotal row (radiusAt row (radiusNumberIn y))) (radiusAt row (radiusNumberIn y)) (codewordIn y)))
 
 -- state 0: missing; state 2: contested; a held record is judged
-unfoldable pub judge : Enumeration → List ℕ → ℕ → List ℕ → Judged
-judge e t r c = byState (stateOf c) judged.Missing (judgeRecord e t r (recordIn c)) judged.Contested
+unfoldable pub judge : List ℕ → ℕ → Cell → Judged
+judge row r c = byState (c .state) judged.Missing (judgeRecord row r (c .bytes)) judged.Contested
 
 -- of a place p of a page
-abbrev pub judgeAt : Enumeration → List ℕ → List ℕ → ℕ → Judged
-judgeAt e t pg p = judge e t (rowOf t p) (cell pg p)
+abbrev pub judgeAt : List ℕ → List ℕ → ℕ → Judged
+judgeAt t pg p = judge (rowFor t p) (rowOf t p) (cellAt pg p)
 
 -- the five answers, numbered in the order in which the tally counts them
 abbrev pub answerNumber : Judged → ℕ
@@ -54,23 +55,24 @@ reasonOf judged.Missing = 0
 reasonOf judged.Contested = 0
 reasonOf (judged.Unreadable reason) = reason
 
--- sound and mended have their point, of length l; the other three have zeros
-abbrev pub shown : Enumeration → ℕ → Judged → List ℤ
-shown e l (judged.Sound k n) = e .point l k n
-shown e l (judged.Mended k n) = e .point l k n
-shown e l judged.Missing = replicate l (pos 0)
-shown e l judged.Contested = replicate l (pos 0)
-shown e l (judged.Unreadable reason) = replicate l (pos 0)
+-- sound and mended have their point; the other three have zeros
+abbrev pub shown : List ℕ → Judged → List ℤ
+shown row (judged.Sound k n) = enumerationOf row .point (lengthOf row) k n
+shown row (judged.Mended k n) = enumerationOf row .point (lengthOf row) k n
+shown row judged.Missing = replicate (lengthOf row) (pos 0)
+shown row judged.Contested = replicate (lengthOf row) (pos 0)
+shown row (judged.Unreadable reason) = replicate (lengthOf row) (pos 0)
 
--- an index of a usable shell of length l
-pub record Indexes (e : Enumeration) (l k n : ℕ) : Type 0 where
-  pub usable : IsUsable l k
-  pub below : n < e .total l k
+-- n names a point of the usable shell of radius k
+pub record PointNamed (row : List ℕ) (k n : ℕ) : Type 0 where
+  pub usable : IsUsable (lengthOf row) k (shellTotal row k)
+  pub below : n < shellTotal row k
+  pub named : enumerationOf row .names (lengthOf row) k n ≡ true
 
--- what a place shows is the point of such an index; proofs/Shows.antt has it of every cell in a good row
-abbrev pub Shows : Enumeration → ℕ → Judged → Type 0
-Shows e l (judged.Sound k n) = Indexes e l k n
-Shows e l (judged.Mended k n) = Indexes e l k n
-Shows e l judged.Missing = Unit {0}
-Shows e l judged.Contested = Unit {0}
-Shows e l (judged.Unreadable reason) = Unit {0}
+-- what a place shows is such a point; proofs/Shows.antt has it of every cell in a good row
+abbrev pub Shows : List ℕ → Judged → Type 0
+Shows row (judged.Sound k n) = PointNamed row k n
+Shows row (judged.Mended k n) = PointNamed row k n
+Shows row judged.Missing = Unit {0}
+Shows row judged.Contested = Unit {0}
+Shows row (judged.Unreadable reason) = Unit {0}

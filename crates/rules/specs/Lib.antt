@@ -1,4 +1,3 @@
-pub mod Cell
 pub mod Taking
 pub mod Judging
 pub mod Reading

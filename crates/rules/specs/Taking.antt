@@ -1,66 +1,92 @@
 -- Taking records into a page (document 01, "The page", "Refusal numbers" and "Order of checks"). t is the table's bytes, pg the page's, x those of
--- a record or of what arrived for one; all of them any, of any length. Assumes nothing.
+-- a record or of what arrived for one; all of them any, of any length. c is a cell. Assumes nothing.
 use Prim.Native.Nat.{ℕ, zero, suc, _+_, _-_, _/_}
 use mathlib.Core.Path.{_≡_}
 use mathlib.Core.List.{List, [], _∷_, _++_, List·Memᴰ}
 use mathlib.Core.Bool.{Bool, true, false, not, _&&_}
 use lib.Dec.{eqb, ltb}
-use lib.ListN.{length, take, drop}
+use lib.ListN.{length, take, drop, replicate}
 use Rattle.answers.specs.Checks.{Check, anyOf, pick, firstOf, leaves, failsOf}
-use Rattle.tables.specs.Table.{placesIn, tableChecks, noSuchPlace}
-use Rattle.records.specs.Record.{recordLength, wrongRecord, placeIn}
-use Rattle.rules.specs.Cell.{wrongPage, cell, setCell, emptyPage, stateOf, recordIn, heldCell, contestedCell, byState, sameBytes}
+use Rattle.tables.specs.Table.{placesIn, tableChecks, placeCheck, placeChecks, noSuchPlace}
+use Rattle.records.specs.Record.{recordLength, recordCheck, placeIn, sameBytes}
+use Rattle.layout.specs.Layout.{Cell, pageLengthCheck, cellAt, setCell, emptyPage}
 
+-- ---- claims
 -- a record names a place
-abbrev pub names : List ℕ → ℕ → Bool
-names x p = eqb (placeIn x) p
+abbrev pub namesPlace : List ℕ → ℕ → Bool
+namesPlace x p = eqb (placeIn x) p
 
 -- a taken record claims its place if that place is in the table; what is no record claims none
 unfoldable pub claims : List ℕ → List ℕ → ℕ → Bool
-claims t x p = eqb (length x) recordLength && names x p && not (noSuchPlace t p)
+claims t x p = eqb (length x) recordLength && namesPlace x p && not (noSuchPlace t p)
+
+-- ---- one cell
+-- a cell that holds the record y, and one that is contested, its bytes zero
+abbrev pub heldCell : List ℕ → Cell
+heldCell y = record { state = 1; bytes = y }
+
+abbrev pub contestedCell : Cell
+contestedCell = record { state = 2; bytes = replicate recordLength 0 }
+
+-- what goes by the state: empty, held, or contested; a state above 2 is refused before it is asked
+abbrev pub byState : {A : Type 0} → ℕ → A → A → A → A
+byState zero empty held contested = empty
+byState (suc zero) empty held contested = held
+byState (suc (suc n)) empty held contested = contested
 
 -- 12: state byte above 2, or a held record with another place number; c is the cell of place p
-unfoldable pub badCell : ℕ → List ℕ → Bool
-badCell p c = anyOf (ltb 2 (stateOf c) ∷ (eqb (stateOf c) 1 && not (names (recordIn c) p)) ∷ [])
+unfoldable pub badCell : ℕ → Cell → Bool
+badCell p c = anyOf (ltb 2 (c .state) ∷ (eqb (c .state) 1 && not (namesPlace (c .bytes) p)) ∷ [])
 
--- the page rule on one cell: empty becomes held, with the 8 bytes; held with the same 8 bytes stays; held with other bytes becomes contested,
--- its 8 bytes zero; contested stays
-unfoldable pub takeCell : List ℕ → List ℕ → List ℕ
-takeCell x c = byState (stateOf c) (heldCell x) (pick (sameBytes (recordIn c) x) c contestedCell) c
+-- the page rule: empty becomes held, with the 8 bytes; held with the same 8 bytes stays; held with other bytes becomes contested, its 8 bytes zero;
+-- contested stays
+unfoldable pub takeCell : List ℕ → Cell → Cell
+takeCell x c = byState (c .state) (heldCell x) (pick (sameBytes (c .bytes) x) c contestedCell) c
 
 -- what taking x makes of the cell of its place p: refusal 12 keeps it
-abbrev pub arriveCell : ℕ → List ℕ → List ℕ → List ℕ
+abbrev pub arriveCell : ℕ → List ℕ → Cell → Cell
 arriveCell p x c = pick (badCell p c) c (takeCell x c)
 
--- Take: 7, 4, 8, 12; first those after the table's
+-- ---- the checks that calls share
+-- 4: page not 9 x places
+abbrev pub pageCheck : List ℕ → List ℕ → Check
+pageCheck t pg = pageLengthCheck (placesIn t) (length pg)
+
+-- 12 at one place; and where it is judged at many, with the place
+abbrev pub cellCheck : ℕ → Cell → Check
+cellCheck p c = record { number = 12; values = []; fails = badCell p c }
+
+abbrev pub cellCheckAt : List ℕ → ℕ → Check
+cellCheckAt pg p = record { number = 12; values = p ∷ []; fails = badCell p (cellAt pg p) }
+
+-- of a table and a page: 7, 4
+abbrev pub pageChecks : List ℕ → List ℕ → List Check
+pageChecks t pg = tableChecks t ++ (pageCheck t pg ∷ [])
+
+-- of a table, a place and a page: 7, 8, 4
+abbrev pub lookChecks : List ℕ → List ℕ → ℕ → List Check
+lookChecks t pg p = placeChecks t p ++ (pageCheck t pg ∷ [])
+
+-- ---- the call take
+-- Take: 7, 4, 8, 12; first those after the page's
 abbrev pub takeRest : List ℕ → List ℕ → List ℕ → List Check
-takeRest t pg x =
-    record { number = 4; values = []; fails = anyOf (wrongRecord (length x) ∷ wrongPage (placesIn t) (length pg) ∷ []) }
-    ∷ record { number = 8; values = []; fails = noSuchPlace t (placeIn x) }
-    ∷ record { number = 12; values = []; fails = badCell (placeIn x) (cell pg (placeIn x)) }
-    ∷ []
+takeRest t pg x = recordCheck (length x) ∷ placeCheck t (placeIn x) ∷ cellCheck (placeIn x) (cellAt pg (placeIn x)) ∷ []
 
 abbrev pub takeChecks : List ℕ → List ℕ → List ℕ → List Check
-takeChecks t pg x = tableChecks t ++ takeRest t pg x
+takeChecks t pg x = pageChecks t pg ++ takeRest t pg x
 
 -- the page with the record taken: the cell of its place changes, and no other byte
 abbrev pub takeInto : List ℕ → List ℕ → List ℕ
-takeInto pg x = setCell pg (placeIn x) (takeCell x (cell pg (placeIn x)))
+takeInto pg x = setCell pg (placeIn x) (takeCell x (cellAt pg (placeIn x)))
 
--- what the call take is to say, and what it leaves in the page
+-- what the call is to say, and what it leaves in the page
 abbrev pub takeSays : List ℕ → List ℕ → List ℕ → List ℕ
 takeSays t pg x = firstOf (takeChecks t pg x) (0 ∷ [])
 
 abbrev pub takeLeaves : List ℕ → List ℕ → List ℕ → List ℕ
 takeLeaves t pg x = leaves (takeChecks t pg x) (takeInto pg x) pg
 
--- the same for a good table
-abbrev pub takeSaysIn : List ℕ → List ℕ → List ℕ → List ℕ
-takeSaysIn t pg x = firstOf (takeRest t pg x) (0 ∷ [])
-
-abbrev pub takeLeavesIn : List ℕ → List ℕ → List ℕ → List ℕ
-takeLeavesIn t pg x = leaves (takeRest t pg x) (takeInto pg x) pg
-
+-- ---- arrivals
 -- whether a take is refused, as a number
 unfoldable pub refusals : List ℕ → List ℕ → List ℕ → ℕ
 refusals t pg x = pick (anyOf (failsOf (takeChecks t pg x))) 1 0
@@ -93,6 +119,7 @@ Nobody t xs p = (x : List ℕ) → List·Memᴰ x xs → claims t x p ≡ false
 abbrev pub AllEqual : List ℕ → List (List ℕ) → ℕ → List ℕ → Type 0
 AllEqual t xs p y = (x : List ℕ) → List·Memᴰ x xs → claims t x p ≡ true → x ≡ y
 
+-- ---- the call collect
 -- a run of bytes is taken record by record, and a shorter last part too
 unfoldable pub partsFrom : ℕ → List ℕ → List (List ℕ)
 partsFrom zero bytes = []

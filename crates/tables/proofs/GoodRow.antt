@@ -1,4 +1,4 @@
--- A row is in range, field by field, exactly when it is not bad by itself. Assumes nothing.
+-- A row is in range, field by field, exactly when it is not bad by itself; and its enumeration is lawful. Assumes nothing.
 use Prim.Native.Nat.{ℕ, zero, suc, _≤_, _<_}
 use mathlib.Core.Path.{_≡_, refl, sym, _∙_}
 use mathlib.Core.List.{List, [], _∷_}
@@ -10,9 +10,11 @@ use lib.Dec.{eqb, ltb}
 use borrow.Author.Tests.{ltb-false, leb-false, eqb-true, not-false, lt-ltb, le-ltb, lt-leb, eq-eqb}
 use Rattle.answers.specs.Checks.{anyOf, NoneOf, failsOf}
 use Rattle.answers.proofs.InOrder.{none-of}
+use Rattle.enumeration.proofs.Product.{product-lawful, product-full}
+use Rattle.enumeration.specs.Enumeration.{Lawful, Full}
 use Rattle.tables.specs.Usable.{lengthOutside, mostPoints, shellChecks, IsUsable}
 use Rattle.tables.proofs.Usable.{length-inside, passes-usable}
-use Rattle.tables.specs.Row.{byteOf, lengthOf, radiiOf, radiusAt, stepOf, placesOf, radiiOutside, shellTotal, unusableRadius, outOfOrder, badRadius, badRadii, tailFaults, badRow, GoodRow}
+use Rattle.tables.specs.Row.{byteOf, lengthOf, radiiOf, radiusAt, stepOf, placesOf, enumerationOf, radiiOutside, shellTotal, unusableRadius, outOfOrder, badRadius, badRadii, tailFaults, badRow, GoodRow}
 use Rattle.tables.proofs.Faults.{unused-says, used-says, radius-at}
 
 pub is-zero : (n : ℕ) → not (eqb n 0) ≡ false → n ≡ 0
@@ -103,3 +105,12 @@ module _ (row : List ℕ) (good : GoodRow row) where
 
 pub good-exactly : (row : List ℕ) → (badRow row ≡ false) ↔ GoodRow row
 good-exactly row = (row-in-range row, row-not-bad row)
+
+-- the enumeration of a row is lawful, and every index below a total names a point
+pub row-lawful : (row : List ℕ) → Lawful (enumerationOf row)
+unfolding enumerationOf
+row-lawful row = product-lawful
+
+pub row-full : (row : List ℕ) → Full (enumerationOf row)
+unfolding enumerationOf
+row-full row = product-full

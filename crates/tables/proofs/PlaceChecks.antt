@@ -6,7 +6,7 @@ use mathlib.Core.Path.{_≡_}
 use native.Mathlib.Omega.{arith}
 use borrow.Author.Tests.{le-leb, lt-leb, leb-false}
 use lib.Dec.{lit<}
-use Rattle.answers.proofs.InOrder.{Numbered, numbered-then, passes-apart}
+use Rattle.answers.proofs.InOrder.{Numbered, numbered-then, passes-apart, passes-then}
 use Rattle.answers.specs.Checks.{Passes}
 use Rattle.tables.specs.Table.{placesIn, tableChecks, placeCheck, placeChecks, noSuchPlace, Good}
 use Rattle.tables.proofs.Seven.{table-numbered}
@@ -19,6 +19,9 @@ pub place-passes : (t : List ℕ) (p : ℕ) → Passes (placeChecks t p) → Goo
 place-passes t p passes =
     let both = passes-apart (tableChecks t) (placeCheck t p ∷ []) passes in
     (both .0, leb-false (placesIn t) p (both .1 .0))
+
+pub passes-place : (t : List ℕ) (p : ℕ) → Good t → p < placesIn t → Passes (placeChecks t p)
+passes-place t p good h = passes-then (tableChecks t) (placeCheck t p ∷ []) good (lt-leb (placesIn t) p h, tt)
 
 -- by the number of places that was found
 module _ (t : List ℕ) (p : ℕ) {places : ℕ} (is-places : places ≡ placesIn t) where

@@ -1,0 +1,59 @@
+-- A table and a page that take records: what the checks of both tell where they pass, and the other way round. Assumes nothing.
+use Prim.Native.Nat.{ℕ, _<_}
+use mathlib.Core.Bool.{Bool, true, false}
+use mathlib.Core.List.{List, [], _∷_}
+use mathlib.Core.Logic.{_⊎_, inl, inr}
+use mathlib.Core.Path.{_≡_, refl}
+use lib.Dec.{lit<}
+use lib.ListN.{length}
+use borrow.Author.Tests.{eq-eqb}
+use Rattle.answers.proofs.InOrder.{Numbered, numbered-then, none-of, passes-apart, passes-then}
+use Rattle.answers.proofs.Lengths.{right-length}
+use Rattle.answers.specs.Checks.{anyOf, failsOf, Passes}
+use Rattle.tables.proofs.PlaceChecks.{place-numbered, place-passes}
+use Rattle.tables.proofs.Seven.{table-numbered}
+use Rattle.tables.specs.Table.{placesIn, tableChecks, placeChecks, Good}
+use Rattle.layout.specs.Layout.{pageLength}
+use Rattle.rules.specs.Taking.{pageCheck, pageChecks, lookChecks}
+
+-- a page of the right length
+pub right-page : (t pg : List ℕ) → length pg ≡ pageLength (placesIn t) → pageCheck t pg .fails ≡ false
+right-page t pg size = rw (eq-eqb (length pg) (pageLength (placesIn t)) size) refl
+
+-- ---- a table and a page: 7, 4
+module _ (t pg : List ℕ) where
+  pub page-numbered : Numbered (pageChecks t pg)
+  page-numbered = numbered-then (tableChecks t) (pageCheck t pg ∷ []) (table-numbered t) (lit< tt, tt)
+
+  pub page-passes : Good t → length pg ≡ pageLength (placesIn t) → Passes (pageChecks t pg)
+  page-passes good size = passes-then (tableChecks t) (pageCheck t pg ∷ []) good (right-page t pg size, tt)
+
+  module _ (ready : Passes (pageChecks t pg)) where
+    pub page-good : Good t
+    page-good = passes-apart (tableChecks t) (pageCheck t pg ∷ []) ready .0
+
+    pub page-size : length pg ≡ pageLength (placesIn t)
+    page-size = right-length (length pg) (pageLength (placesIn t)) (passes-apart (tableChecks t) (pageCheck t pg ∷ []) ready .1 .0)
+
+  -- either they pass, or every take is refused
+  pub ready-or-shut : Passes (pageChecks t pg) ⊎ (anyOf (failsOf (pageChecks t pg)) ≡ true)
+  ready-or-shut = go (anyOf (failsOf (pageChecks t pg))) refl
+    where
+      go : (b : Bool) → anyOf (failsOf (pageChecks t pg)) ≡ b → Passes (pageChecks t pg) ⊎ (b ≡ true)
+      go true e = inr refl
+      go false e = inl (none-of (failsOf (pageChecks t pg)) e)
+
+-- ---- a table, a place and a page: 7, 8, 4
+module _ (t pg : List ℕ) (p : ℕ) where
+  pub look-numbered : Numbered (lookChecks t pg p)
+  look-numbered = numbered-then (placeChecks t p) (pageCheck t pg ∷ []) (place-numbered t p) (lit< tt, tt)
+
+  pub look-passes : Passes (placeChecks t p) → length pg ≡ pageLength (placesIn t) → Passes (lookChecks t pg p)
+  look-passes place size = passes-then (placeChecks t p) (pageCheck t pg ∷ []) place (right-page t pg size, tt)
+
+  module _ (ready : Passes (lookChecks t pg p)) where
+    pub look-place : Good t × (p < placesIn t)
+    look-place = place-passes t p (passes-apart (placeChecks t p) (pageCheck t pg ∷ []) ready .0)
+
+    pub look-size : length pg ≡ pageLength (placesIn t)
+    look-size = right-length (length pg) (pageLength (placesIn t)) (passes-apart (placeChecks t p) (pageCheck t pg ∷ []) ready .1 .0)
