@@ -6,7 +6,7 @@ use native.Mathlib.Omega.{arith}
 use lib.IntN.{pos}
 use lib.ListN.{length, getD, take}
 use borrow.Author.Needs.{needs, sfits-of}
-use Rattle.product.proofs.Coordinates.{kept}
+use Rattle.coordinates.proofs.Coordinates.{kept}
 use Rattle.text.specs.Text.{integer, spaced}
 use Rattle.text.specs.Written.{Wrote}
 use Rattle.text.proofs.Writing.{wrote-length, nothing-written, fields-next, all-fields}
