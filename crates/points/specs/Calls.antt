@@ -7,7 +7,7 @@ use lib.Dec.{eqb, leb}
 use lib.IntN.{ℤ}
 use lib.ListN.{length}
 use Rattle.answers.specs.Refusals.{meaning}
-use Rattle.answers.specs.Checks.{Check, wrongLength, firstOf, leaves}
+use Rattle.answers.specs.Checks.{Check, lengthCheck, firstOf, leaves}
 use Rattle.counts.specs.Counts.{N}
 use Rattle.tables.specs.Usable.{shellChecks}
 use Rattle.enumeration.specs.Point.{radiusOf}
@@ -28,19 +28,17 @@ pastEnd n total = leb total n
 
 -- Index: 1, 2, 3, 4, 5; first the last two
 abbrev pub indexRest : ℕ → ℕ → List ℤ → List Check
-indexRest l k x =
-    record { number = 4; values = []; fails = wrongLength (length x) l } ∷ record { number = 5; values = []; fails = wrongSum x k } ∷ []
+indexRest l k x = lengthCheck (length x) l ∷ record { number = 5; values = []; fails = wrongSum x k } ∷ []
 
 abbrev pub indexChecks : ℕ → ℕ → List ℤ → List Check
-indexChecks l k x = shellChecks l k ++ indexRest l k x
+indexChecks l k x = shellChecks l k (N l k) ++ indexRest l k x
 
 -- Point: 1, 2, 3, 4, 6, in the same way; b is the length of the lent buffer
 abbrev pub pointRest : ℕ → ℕ → ℕ → ℕ → List Check
-pointRest l k n b =
-    record { number = 4; values = []; fails = wrongLength b l } ∷ record { number = 6; values = []; fails = pastEnd n (N l k) } ∷ []
+pointRest l k n b = lengthCheck b l ∷ record { number = 6; values = []; fails = pastEnd n (N l k) } ∷ []
 
 abbrev pub pointChecks : ℕ → ℕ → ℕ → ℕ → List Check
-pointChecks l k n b = shellChecks l k ++ pointRest l k n b
+pointChecks l k n b = shellChecks l k (N l k) ++ pointRest l k n b
 
 -- what the call index answers: the index, or a refusal
 abbrev pub indexMeaning : Indexed → List ℕ
@@ -62,13 +60,3 @@ pointSays l k n held = firstOf (pointChecks l k n (length held)) (0 ∷ [])
 
 abbrev pub pointLeaves : ℕ → ℕ → ℕ → List ℤ → List ℤ
 pointLeaves l k n held = leaves (pointChecks l k n (length held)) (productPoint l k n) held
-
--- the same in a shell that has passed its checks
-abbrev pub indexSaysIn : ℕ → ℕ → List ℤ → List ℕ
-indexSaysIn l k x = firstOf (indexRest l k x) (0 ∷ productIndex x ∷ [])
-
-abbrev pub pointSaysIn : ℕ → ℕ → ℕ → List ℤ → List ℕ
-pointSaysIn l k n held = firstOf (pointRest l k n (length held)) (0 ∷ [])
-
-abbrev pub pointLeavesIn : ℕ → ℕ → ℕ → List ℤ → List ℤ
-pointLeavesIn l k n held = leaves (pointRest l k n (length held)) (productPoint l k n) held

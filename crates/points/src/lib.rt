@@ -1,17 +1,22 @@
-// The calls index and point (document 01, "The product index"). What they are made of stands in `product`.
+// The calls index and point (document 01, "The product index"). How the points of a shell are numbered stands in `numbering`.
 use answers::Refusal;
+use answers::Verdict;
+use coordinates::inner::magnitude_sum;
 use counts::Length;
 use counts::Radius;
-use product::inner::coordinate::magnitude_sum;
-use product::inner::range::holds;
-use product::inner::range::locate;
-use product::inner::read::write_point;
-use product::inner::weigh::index_of;
-use shell::Shell;
+use numbering::inner::Numbering;
+use numbering::inner::Sought;
+use numbering::inner::seek;
+use numbering::inner::write_point;
 use shell::check_shell;
 ghost use mathlib.Core.Path.{_≡_};
-ghost use Rattle.tables.specs.Usable.{IsUsable};
-ghost use Rattle.points.specs.Calls.{indexMeaning, indexSays, indexSaysIn, pointMeaning, pointSays, pointSaysIn, pointLeaves, pointLeavesIn};
+ghost use mathlib.Core.List.{[], _∷_};
+ghost use lib.ListN as listed;
+ghost use Rattle.answers.specs.Checks.{firstOf, leaves};
+ghost use Rattle.enumeration.specs.Product.{productIndex};
+ghost use Rattle.enumeration.specs.Reading.{productPoint};
+ghost use Rattle.numbering.specs.Numbered.{Usable};
+ghost use Rattle.points.specs.Calls.{indexMeaning, indexRest, indexSays, pointMeaning, pointRest, pointSays, pointLeaves};
 
 pub enum Indexed {
     At(u64),
@@ -28,8 +33,8 @@ pub fn index(length: Length, radius: Radius, x: &[i32]) -> Indexed
     ensures { λ r. ⌜ indexMeaning r ≡ indexSays (length .0) (radius .0) (now (x .entry)) ⌝ }
 {
     match check_shell(length, radius) {
-        Shell::Usable => index_in(length, radius, x),
-        Shell::Unusable(refusal) => Indexed::Refused(refusal),
+        Verdict::Passed => index_usable(Numbering { length, radius }, x),
+        Verdict::Refused(refusal) => Indexed::Refused(refusal),
     }
 }
 
@@ -38,37 +43,38 @@ pub fn point(length: Length, radius: Radius, n: u64, out: &mut [i32]) -> Pointed
     ensures { λ r. ⌜ (pointMeaning r ≡ pointSays (length .0) (radius .0) n (now (out .entry))) × (now (out .exit) ≡ pointLeaves (length .0) (radius .0) n (now (out .entry))) ⌝ }
 {
     match check_shell(length, radius) {
-        Shell::Usable => point_in(length, radius, n, out),
-        Shell::Unusable(refusal) => Pointed::Refused(refusal),
+        Verdict::Passed => point_usable(Numbering { length, radius }, n, out),
+        Verdict::Refused(refusal) => Pointed::Refused(refusal),
     }
 }
 
 // What index does in a usable shell: the checks 4 and 5, and the work.
-fn index_in(length: Length, radius: Radius, x: &[i32]) -> Indexed
-    requires { ⌜ IsUsable (length .0) (radius .0) ⌝ }
-    ensures { λ r. ⌜ indexMeaning r ≡ indexSaysIn (length .0) (radius .0) (now (x .entry)) ⌝ }
+fn index_usable(numbering: Numbering, x: &[i32]) -> Indexed
+    requires { ⌜ Usable numbering ⌝ }
+    ensures { λ r. ⌜ indexMeaning r ≡ firstOf (indexRest (numbering .length .0) (numbering .radius .0) (now (x .entry))) (0 ∷ productIndex (now (x .entry)) ∷ []) ⌝ }
 {
-    if x.len() != length.0 {
+    if x.len() != numbering.length.0 {
         return Indexed::Refused(Refusal::BufferLength);
     }
-    if magnitude_sum(x) != radius.0 as u64 {
+    if magnitude_sum(x) != numbering.radius.0 as u64 {
         return Indexed::Refused(Refusal::MagnitudeSum);
     }
-    Indexed::At(index_of(length, radius, x))
+    Indexed::At(numbering::inner::index(numbering, x))
 }
 
 // What point does in a usable shell: the checks 4 and 6, and the work.
-fn point_in(length: Length, radius: Radius, n: u64, out: &mut [i32]) -> Pointed
-    requires { ⌜ IsUsable (length .0) (radius .0) ⌝ }
-    ensures { λ r. ⌜ (pointMeaning r ≡ pointSaysIn (length .0) (radius .0) n (now (out .entry))) × (now (out .exit) ≡ pointLeavesIn (length .0) (radius .0) n (now (out .entry))) ⌝ }
+fn point_usable(numbering: Numbering, n: u64, out: &mut [i32]) -> Pointed
+    requires { ⌜ Usable numbering ⌝ }
+    ensures { λ r. ⌜ (pointMeaning r ≡ firstOf (pointRest (numbering .length .0) (numbering .radius .0) n (listed.length (now (out .entry)))) (0 ∷ [])) × (now (out .exit) ≡ leaves (pointRest (numbering .length .0) (numbering .radius .0) n (listed.length (now (out .entry)))) (productPoint (numbering .length .0) (numbering .radius .0) n) (now (out .entry))) ⌝ }
 {
-    if out.len() != length.0 {
+    if out.len() != numbering.length.0 {
         return Pointed::Refused(Refusal::BufferLength);
     }
-    let range = locate(length, radius, n);
-    if !holds(range, length, radius, n) {
-        return Pointed::Refused(Refusal::IndexPastEnd);
+    match seek(numbering, n) {
+        Sought::At(found) => {
+            write_point(numbering, n, found, out);
+            Pointed::Written
+        }
+        Sought::Past { total: _ } => Pointed::Refused(Refusal::IndexPastEnd),
     }
-    write_point(length, radius, n, range, out);
-    Pointed::Written
 }

@@ -4,11 +4,13 @@ use borrow.Author.Needs.{needs}
 use mathlib.Core.Path.{sym, ap, _∙_}
 use mathlib.Core.List.{[], _∷_}
 use lib.ListN.{length}
+use Rattle.answers.specs.Refusals.{verdictMeaning}
 use Rattle.answers.proofs.InOrder.{refused-says, refused-leaves, passed-says, passed-leaves}
+use Rattle.counts.specs.Counts.{N}
 use Rattle.tables.specs.Usable.{shellChecks}
-use Rattle.shell.specs.Shell.{shellMeaning}
 use Rattle.tables.proofs.Usable.{says-usable, let-through}
 use Rattle.enumeration.specs.Reading.{productPoint}
+use Rattle.numbering.specs.Numbered.{enumerationIn}
 use Rattle.points.specs.Calls.{pointRest}
 use Rattle.points.proofs.point.Statement.{statement}
 use Rattle.points.proofs.point.Tie as tie
@@ -19,10 +21,12 @@ check-shell-requires c κs = search needs
 enum-told : tie.Need-enum-told
 enum-told c = search needs
 
-point-in-requires : tie.Need-point-in-requires
-point-in-requires c κs =
+point-usable-requires : tie.Need-point-usable-requires
+unfolding enumerationIn
+point-usable-requires c κs =
     let a = c .before .before .before .before .args in
-    says-usable (a .length .0) (a .radius .0) (ap shellMeaning (sym (c .before .enum-told .given .1)) ∙ c .before .before .before .check-shell .ensures)
+    says-usable (a .length .0) (a .radius .0) (N (a .length .0) (a .radius .0))
+    (ap verdictMeaning (sym (c .before .enum-told .given .1)) ∙ c .before .before .before .check-shell .ensures)
 
 enum-known-refusal : tie.Need-enum-known-refusal
 enum-known-refusal c = search needs
@@ -37,10 +41,10 @@ returns c =
     let k = a .radius .0 in
     let held = a .out .now in
     let rest = pointRest l k (a .n) (length held) in
-    let through = let-through l k (ap shellMeaning (sym (c .before .before .before .enum-told .given .1)) ∙ c .before .before .before .before .before .check-shell .ensures) in
-    let did = c .before .point-in .ensures in (
-      did .0 ∙ passed-says (shellChecks l k) rest (0 ∷ []) through,
-      did .1 ∙ passed-leaves (shellChecks l k) rest (productPoint l k (a .n)) held through,
+    let through = let-through l k (N l k) (ap verdictMeaning (sym (c .before .before .before .enum-told .given .1)) ∙ c .before .before .before .before .before .check-shell .ensures) in
+    let did = c .before .point-usable .ensures in (
+      did .0 ∙ passed-says (shellChecks l k (N l k)) rest (0 ∷ []) through,
+      did .1 ∙ passed-leaves (shellChecks l k (N l k)) rest (productPoint l k (a .n)) held through,
     )
 
 returns-2 : tie.Need-returns-2
@@ -51,9 +55,9 @@ returns-2 c =
     let held = a .out .now in
     let rest = pointRest l k (a .n) (length held) in
     let told = c .before .refusal .given in
-    let e = ap shellMeaning (sym (told .1)) ∙ c .before .before .before .check-shell .ensures in (
-      refused-says (shellChecks l k) rest [] (0 ∷ []) (told .0 .0) e,
-      refused-leaves (shellChecks l k) rest (productPoint l k (a .n)) held [] (told .0 .0) e,
+    let e = ap verdictMeaning (sym (told .1)) ∙ c .before .before .before .check-shell .ensures in (
+      refused-says (shellChecks l k (N l k)) rest [] (0 ∷ []) (told .0 .0) e,
+      refused-leaves (shellChecks l k (N l k)) rest (productPoint l k (a .n)) held [] (told .0 .0) e,
     )
 
 pub point-spec : {M : Type 1} → statement M
@@ -62,7 +66,7 @@ point-spec =
     (tie.spec
     check-shell-requires
     enum-told
-    point-in-requires
+    point-usable-requires
     enum-known-refusal
     same-length
     returns

@@ -1,5 +1,5 @@
 // The fields of a line: decimal numbers, integers, words, each with a space before it, and the newline.
-use product::inner::coordinate::magnitude;
+use coordinates::inner::magnitude;
 ghost use Prim.Native.Nat.{_+_, _*_, _≤_};
 ghost use mathlib.Core.List.{_∷_, [], _++_, map};
 ghost use lib.ListN.{length};

@@ -2,7 +2,7 @@
 use borrow.Author.Needs.{needs}
 use mathlib.Core.Path.{ap, _∙_}
 use lib.IntN.{natAbs}
-use Rattle.product.proofs.Coordinates.{kept, magnitude-bound}
+use Rattle.coordinates.proofs.Coordinates.{kept, magnitude-bound}
 use Rattle.text.proofs.Writing.{plain-written, minus-written}
 use Rattle.text.proofs.inner.fields.write_integer.Statement.{statement}
 use Rattle.text.proofs.inner.fields.write_integer.Tie as tie

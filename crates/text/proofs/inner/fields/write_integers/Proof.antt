@@ -6,7 +6,7 @@ use native.Mathlib.Omega.{arith}
 use lib.IntN.{pos}
 use lib.ListN.{length, getD, take}
 use borrow.Author.Needs.{needs, sfits-of}
-use Rattle.product.proofs.Coordinates.{kept}
+use Rattle.coordinates.proofs.Coordinates.{kept}
 use Rattle.buffers.specs.Written.{Wrote}
 use Rattle.buffers.proofs.Writing.{wrote-none, wrote-length}
 use Rattle.text.specs.Text.{integer, spaced}
