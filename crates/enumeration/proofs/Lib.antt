@@ -10,3 +10,4 @@ pub mod Bits
 pub mod Steps
 pub mod Example
 pub mod Tails
+pub mod Laws

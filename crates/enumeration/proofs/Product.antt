@@ -70,11 +70,6 @@ back x =
     weigh-point s (length x) (radiusOf x) p h (signIndex (signsIn x)) (pattern-part x) (shape-part x) (sign-part x) (nonzeros-part x)
     ∙ parts-back x (p * S s (radiusOf x) + h)
 
--- at radius 0 there is one point, with index 0
-pub zero-index : (l : ℕ) (x : List ℤ) → OnShell l 0 x → productIndex x ≡ 0
-unfolding N
-zero-index l x on = let below = index-below l 0 x on in omega arith
-
 pub point-of-index : (l k : ℕ) (x : List ℤ) → OnShell l k x → productPoint l k (productIndex x) ≡ x
 point-of-index l k x on = rw (← on .of-length, ← on .of-radius) (back x)
 
@@ -130,6 +125,10 @@ index-of-point l k n h =
     let same = position-back s l k within (r .0) in
     rw (y .of-nonzeros, y .of-length, y .of-radius, y .of-pattern, y .of-shape, y .of-sign) (omega (arith, r .1))
 
+one-point : (l : ℕ) → N l 0 ≡ 1
+unfolding N
+one-point l = refl
+
 -- so it is lawful, and every index below N names a point
 pub product-lawful : Lawful product
 product-lawful =
@@ -139,6 +138,7 @@ product-lawful =
       point-of-index = point-of-index;
       point-on-shell = λ l k n below named. point-on-shell l k n below;
       index-of-point = λ l k n below named. index-of-point l k n below;
+      one-at-0 = one-point;
     }
 
 pub product-full : Full product

@@ -24,6 +24,8 @@ pub record Lawful (e : Enumeration) : Type 0 where
   -- an index below the total that names a point gives one of the shell, and its index is that number
   pub point-on-shell : (l k n : ℕ) → n < e .total l k → e .names l k n ≡ true → OnShell l k (e .point l k n)
   pub index-of-point : (l k n : ℕ) → n < e .total l k → e .names l k n ≡ true → e .index (e .point l k n) ≡ n
+  -- radius 0 has one index
+  pub one-at-0 : (l : ℕ) → e .total l 0 ≡ 1
 
 -- every index below the total names a point
 abbrev pub Full : Enumeration → Type 0

@@ -8,6 +8,7 @@ use Rattle.counts.specs.Counts.{O}
 use Rattle.enumeration.specs.Enumeration.{Enumeration}
 use Rattle.enumeration.specs.Enumerations.{product}
 use Rattle.enumeration.specs.Reading.{rangeOf}
+use Rattle.tables.specs.Row.{lengthOf, radiusAt, enumerationOf}
 use Rattle.tables.specs.Usable.{IsUsable}
 use Rattle.numbering.specs.declared.inner.Numbering.{Numbering}
 use Rattle.numbering.specs.declared.inner.Found.{Found}
@@ -29,6 +30,12 @@ pointIn m n = enumerationIn m .point (m .length .0) (m .radius .0) n
 
 abbrev pub namesIn : Numbering → ℕ → Bool
 namesIn m n = enumerationIn m .names (m .length .0) (m .radius .0) n
+
+-- the numbering of radius number n of a row
+pub record IsOfRow (m : Numbering) (row : List ℕ) (n : ℕ) : Type 0 where
+  pub is-length : m .length .0 ≡ lengthOf row
+  pub is-radius : m .radius .0 ≡ radiusAt row n
+  pub is-enumeration : enumerationIn m ≡ enumerationOf row
 
 -- the shell is usable
 abbrev pub Usable : Numbering → Type 0

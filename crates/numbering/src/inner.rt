@@ -7,9 +7,11 @@ use product::inner::range::locate;
 use product::inner::read;
 use product::inner::weigh::index_of;
 ghost use mathlib.Core.Path.{_≡_};
-ghost use lib.ListN.{length};
+ghost use Prim.Native.Nat.{_<_};
+ghost use lib.ListN as listed;
 ghost use Rattle.enumeration.specs.Point.{OnShell};
-ghost use Rattle.numbering.specs.Numbered.{totalIn, indexIn, pointIn, Usable, Names, IsFound, Seeks};
+ghost use Rattle.tables.specs.Row.{rowLength};
+ghost use Rattle.numbering.specs.Numbered.{IsOfRow, totalIn, indexIn, pointIn, Usable, Names, IsFound, Seeks};
 
 // The shell whose points are numbered.
 pub struct Numbering {
@@ -26,6 +28,17 @@ pub struct Found {
 pub enum Sought {
     At(Found),
     Past { total: u64 },
+}
+
+// The numbering of the shell of a radius number of a row.
+pub fn of_row(row: &[u8], number: usize) -> Numbering
+    requires { ⌜ (listed.length (now row) ≡ rowLength) × (number < 8) ⌝ }
+    ensures { λ m. ⌜ IsOfRow m (now (row .entry)) number ⌝ }
+{
+    Numbering {
+        length: rows::inner::row::length(row),
+        radius: rows::inner::row::radius(row, number),
+    }
 }
 
 // How many indices there are.
@@ -62,7 +75,7 @@ pub fn seek(numbering: Numbering, n: u64) -> Sought
 
 // The point of an index that names one, by where it stands.
 pub fn write_point(numbering: Numbering, n: u64, found: Found, out: &mut [i32])
-    requires { ⌜ Names numbering n × IsFound numbering n found × (length (now out) ≡ numbering .length .0) ⌝ }
+    requires { ⌜ Names numbering n × IsFound numbering n found × (listed.length (now out) ≡ numbering .length .0) ⌝ }
     ensures { λ _. ⌜ now (out .exit) ≡ pointIn numbering n ⌝ }
 {
     read::write_point(numbering.length, numbering.radius, n, found.range, out);

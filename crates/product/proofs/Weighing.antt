@@ -11,7 +11,8 @@ use Rattle.counts.proofs.Pascal.{S-none}
 use Rattle.enumeration.specs.Point.{OnShell, radiusOf, nonzerosIn, shapeIn}
 use Rattle.enumeration.specs.Product.{shapeIndex, weigh, productIndex}
 use Rattle.enumeration.proofs.Parts.{shape-part, nonzeros-part}
-use Rattle.enumeration.proofs.Product.{B-positive, index-below, zero-index}
+use Rattle.enumeration.proofs.Laws.{zero-index}
+use Rattle.enumeration.proofs.Product.{product-lawful, B-positive, index-below}
 use Rattle.tables.specs.Usable.{IsUsable}
 use Rattle.product.specs.declared.inner.weigh.Weight.{Weight}
 use Rattle.product.specs.Weights.{shapesAfter, weightOf, weighed, Weighable}
@@ -31,7 +32,7 @@ no-weight l k x on e = go (radiusOf x) refl
     go : (r : ℕ) → radiusOf x ≡ r → 0 ≡ productIndex x
     go zero z =
         let none : k ≡ 0 = sym (on .of-radius) ∙ z in
-        sym (zero-index l x (rw none at on))
+        sym (zero-index product-lawful l x (rw none at on))
     go (suc r) z =
         let part : shapeIndex (shapeIn x) < S 0 (suc r) = rw (e, z) at (shape-part x) in
         absurd (omega (arith, S-none r))
