@@ -8,7 +8,7 @@ use Rattle.counts.specs.Counts.{O}
 use Rattle.enumeration.specs.Enumeration.{Enumeration}
 use Rattle.enumeration.specs.Enumerations.{product}
 use Rattle.enumeration.specs.Reading.{rangeOf}
-use Rattle.tables.specs.Row.{lengthOf, radiusAt, enumerationOf}
+use Rattle.tables.specs.Row.{lengthOf, enumerationOf}
 use Rattle.tables.specs.Usable.{IsUsable}
 use Rattle.numbering.specs.declared.inner.Numbering.{Numbering}
 use Rattle.numbering.specs.declared.inner.Found.{Found}
@@ -31,10 +31,10 @@ pointIn m n = enumerationIn m .point (m .length .0) (m .radius .0) n
 abbrev pub namesIn : Numbering → ℕ → Bool
 namesIn m n = enumerationIn m .names (m .length .0) (m .radius .0) n
 
--- the numbering of radius number n of a row
-pub record IsOfRow (m : Numbering) (row : List ℕ) (n : ℕ) : Type 0 where
+-- the numbering of the shell of radius k in a row
+pub record IsOfRow (m : Numbering) (row : List ℕ) (k : ℕ) : Type 0 where
   pub is-length : m .length .0 ≡ lengthOf row
-  pub is-radius : m .radius .0 ≡ radiusAt row n
+  pub is-radius : m .radius .0 ≡ k
   pub is-enumeration : enumerationIn m ≡ enumerationOf row
 
 -- the shell is usable
@@ -56,3 +56,7 @@ pub record IsFound (m : Numbering) (n : ℕ) (found : Found) : Type 0 where
 abbrev pub Seeks : Numbering → ℕ → Sought → Type 0
 Seeks m n (sought.At found) = (n < totalIn m) × (namesIn m n ≡ true) × IsFound m n found
 Seeks m n (sought.Past total) = (totalIn m ≤ n) × (total ≡ totalIn m)
+
+-- `found` is where n stands in the shell of radius k in a row, whichever numbering of it is asked
+abbrev pub FoundIn : List ℕ → ℕ → ℕ → Found → Type 0
+FoundIn row k n found = (m : Numbering) → IsOfRow m row k → IsFound m n found

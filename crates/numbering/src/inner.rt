@@ -10,7 +10,7 @@ ghost use mathlib.Core.Path.{_≡_};
 ghost use Prim.Native.Nat.{_<_};
 ghost use lib.ListN as listed;
 ghost use Rattle.enumeration.specs.Point.{OnShell};
-ghost use Rattle.tables.specs.Row.{rowLength};
+ghost use Rattle.tables.specs.Row.{rowLength, radiusAt};
 ghost use Rattle.numbering.specs.Numbered.{IsOfRow, totalIn, indexIn, pointIn, Usable, Names, IsFound, Seeks};
 
 // The shell whose points are numbered.
@@ -30,15 +30,23 @@ pub enum Sought {
     Past { total: u64 },
 }
 
-// The numbering of the shell of a radius number of a row.
-pub fn of_row(row: &[u8], number: usize) -> Numbering
-    requires { ⌜ (listed.length (now row) ≡ rowLength) × (number < 8) ⌝ }
-    ensures { λ m. ⌜ IsOfRow m (now (row .entry)) number ⌝ }
+// The numbering of the shell of a radius, in a row.
+pub fn of_radius(row: &[u8], radius: Radius) -> Numbering
+    requires { ⌜ listed.length (now row) ≡ rowLength ⌝ }
+    ensures { λ m. ⌜ IsOfRow m (now (row .entry)) (radius .0) ⌝ }
 {
     Numbering {
         length: rows::inner::row::length(row),
-        radius: rows::inner::row::radius(row, number),
+        radius,
     }
+}
+
+// The same of a radius number of the row.
+pub fn of_row(row: &[u8], number: usize) -> Numbering
+    requires { ⌜ (listed.length (now row) ≡ rowLength) × (number < 8) ⌝ }
+    ensures { λ m. ⌜ IsOfRow m (now (row .entry)) (radiusAt (now (row .entry)) number) ⌝ }
+{
+    of_radius(row, rows::inner::row::radius(row, number))
 }
 
 // How many indices there are.
@@ -57,6 +65,25 @@ pub fn index(numbering: Numbering, x: &[i32]) -> u64
     index_of(numbering.length, numbering.radius, x)
 }
 
+// What stands for an index where there is none.
+pub fn nowhere() -> Found
+    ensures { λ f. ⌜ (f .range .s ≡ 0) × (f .range .start ≡ 0) ⌝ }
+{
+    Found {
+        range: Range { s: 0, start: 0 },
+    }
+}
+
+// Where an index stands.
+pub fn find(numbering: Numbering, n: u64) -> Found
+    requires { ⌜ Usable numbering ⌝ }
+    ensures { λ f. ⌜ IsFound numbering n f ⌝ }
+{
+    Found {
+        range: locate(numbering.length, numbering.radius, n),
+    }
+}
+
 // Whether an index names a point, and where it stands.
 pub fn seek(numbering: Numbering, n: u64) -> Sought
     requires { ⌜ Usable numbering ⌝ }
@@ -64,9 +91,10 @@ pub fn seek(numbering: Numbering, n: u64) -> Sought
 {
     let length = numbering.length;
     let radius = numbering.radius;
-    let range = locate(length, radius, n);
+    let found = find(numbering, n);
+    let range = found.range;
     if holds(range, length, radius, n) {
-        return Sought::At(Found { range });
+        return Sought::At(found);
     }
     Sought::Past {
         total: ranges::inner::total(length, radius, range.start),

@@ -3,6 +3,7 @@
 use Prim.Native.Nat.{ℕ, _≤_}
 use mathlib.Core.Path.{_≡_, refl, sym, ap, _∙_}
 use borrow.Author.Tests.{ltb-true, ltb-false}
+use borrow.Author.Needs.{needs}
 use Rattle.counts.specs.Counts.{N, O}
 use Rattle.enumeration.specs.Reading.{rangeOf}
 use Rattle.enumeration.proofs.RangeOf.{none-above}
@@ -14,40 +15,33 @@ use Rattle.numbering.proofs.inner.seek.Tie as tie
 at-last : (l k n s start : ℕ) → s ≡ rangeOf l k n → start ≡ O s l k → N l k ≤ n → start ≡ O 0 l k
 at-last l k n s start e f h = f ∙ ap (λ (t : ℕ). O t l k) (e ∙ none-above l k n h)
 
-locate-requires : tie.Need-locate-requires
-unfolding enumerationIn
-locate-requires c κs = c .before .before .pre
-
 holds-requires : tie.Need-holds-requires
 unfolding enumerationIn
-holds-requires c κs = (c .before .before .before .pre, c .locate .ensures .0)
+holds-requires c κs = (c .before .before .before .before .pre, c .before .find .ensures .range-s)
 
 returns : tie.Need-returns
 unfolding enumerationIn
 returns c =
-    let a = c .before .before .before .before .before .args in
+    let a = c .before .before .before .before .before .before .args in
     let m = a .numbering in
-    let found = c .before .before .locate .ensures in
-    let below = ltb-true (a .n) (N (m .length .0) (m .radius .0)) (sym (c .before .holds .ensures) ∙ c .if1 .taken) in
-    (below, refl, record { range-s = found .0; range-start = found .1 })
+    (ltb-true (a .n) (N (m .length .0) (m .radius .0)) (sym (c .before .holds .ensures) ∙ c .if1 .taken), refl, c .before .before .before .find .ensures)
 
 total-requires : tie.Need-total-requires
 total-requires c κs =
-    let a = c .before .before .before .before .before .args in
-    let m = a .numbering in
-    let l = m .length .0 in
-    let k = m .radius .0 in
-    let found = c .before .before .locate in
-    let past = ltb-false (a .n) (N l k) (sym (c .before .holds .ensures) ∙ c .if1 .left) in
-    at-last l k (a .n) (found .result .s) (found .result .start) (found .ensures .0) (found .ensures .1) past
+    let a = c .before .before .before .before .before .before .args in
+    let l = a .numbering .length .0 in
+    let k = a .numbering .radius .0 in
+    let found = c .before .before .before .find in
+    at-last l k (a .n) (found .result .range .s) (found .result .range .start) (found .ensures .range-s) (found .ensures .range-start)
+    (ltb-false (a .n) (N l k) (sym (c .before .holds .ensures) ∙ c .if1 .left))
 
 returns-2 : tie.Need-returns-2
 unfolding enumerationIn
 returns-2 c =
-    let e = c .before in
-    let a = e .before .before .before .before .before .args in
+    let a = c .before .before .before .before .before .before .before .args in
     let m = a .numbering in
-    (ltb-false (a .n) (N (m .length .0) (m .radius .0)) (sym (e .before .holds .ensures) ∙ e .if1 .left), c .total .ensures)
+    (ltb-false (a .n) (N (m .length .0) (m .radius .0)) (sym (c .before .before .holds .ensures) ∙ c .before .if1 .left), c .total .ensures)
 
 pub seek-spec : {M : Type 1} → statement M
-seek-spec = tie.close (tie.spec locate-requires holds-requires returns total-requires returns-2)
+seek-spec =
+    tie.close (tie.spec (λ c κs. search needs) holds-requires returns total-requires returns-2)
