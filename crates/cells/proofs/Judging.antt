@@ -1,17 +1,20 @@
 -- What the answer of a held record goes by, as the code tests it. Assumes nothing.
 use Prim.Native.Nat.{ℕ, _-_, _^_, _≤_, _<_}
 use mathlib.Core.List.{List}
-use mathlib.Core.Path.{_≡_, refl}
+use mathlib.Core.Path.{_≡_, refl, _∙_}
 use native.Mathlib.Nat.{le-of-lt, lt-of-lt-of-le}
 use borrow.Author.Tests.{le-leb, lt-leb, lt-ltb, le-ltb, eq-eqb, ne-eqb}
 use Rattle.counts.proofs.Widths.{width-is, width-enough, width-tight}
 use Rattle.counts.specs.Width.{width}
-use Rattle.enumeration.specs.Enumeration.{Enumeration}
 use Rattle.records.specs.Record.{rowIn, radiusNumberIn, codewordIn}
-use Rattle.tables.specs.Row.{lengthOf, radiiOf, radiusAt}
+use Rattle.tables.specs.Row.{radiiOf, radiusAt}
 use Rattle.rules.proofs.Shows.{above-one, some-bits}
-use Rattle.rules.specs.Judging.{judgeCodeword, judgeRecord}
+use Rattle.rules.specs.Judging.{judgeCodeword, judgeIn, judgeRecord}
+use Rattle.rules.specs.declared.Judged.{Judged}
 use Rattle.rules.specs.declared.Judged.the-variants as judged
+use Rattle.numbering.specs.declared.inner.Found.{Found}
+use Rattle.cells.specs.Seen.{Handed, NotSound}
+use Rattle.cells.specs.declared.inner.judging.Seen.{Seen}
 
 -- the width of what a usable shell has
 pub width-to : (total : ℕ) → total ≤ 2 ^ 32 → width total ≤ 32
@@ -37,17 +40,28 @@ module _ (total k n : ℕ) where
     unfolding judgeCodeword
     codeword-mended = rw (lt-leb (2 ^ width total) n inside, le-ltb n total above) refl
 
-module _ (e : Enumeration) (t : List ℕ) (r : ℕ) (y : List ℕ) where
-  pub record-9 : (rowIn y ≡ r → ⊥) → judged.Unreadable 9 ≡ judgeRecord e t r y
+module _ (row : List ℕ) (r : ℕ) (y : List ℕ) where
+  pub record-9 : (rowIn y ≡ r → ⊥) → judged.Unreadable 9 ≡ judgeRecord row r y
   unfolding judgeRecord
   record-9 h = rw (ne-eqb (rowIn y) r h) refl
 
   module _ (here : rowIn y ≡ r) where
-    pub record-10 : radiiOf t r ≤ radiusNumberIn y → judged.Unreadable 10 ≡ judgeRecord e t r y
+    pub record-10 : radiiOf row ≤ radiusNumberIn y → judged.Unreadable 10 ≡ judgeRecord row r y
     unfolding judgeRecord
-    record-10 h = rw (eq-eqb (rowIn y) r here, le-leb (radiiOf t r) (radiusNumberIn y) h) refl
+    record-10 h = rw (eq-eqb (rowIn y) r here, le-leb (radiiOf row) (radiusNumberIn y) h) refl
 
-    pub record-judged : radiusNumberIn y < radiiOf t r
-        → judgeCodeword (e .total (lengthOf t r) (radiusAt t r (radiusNumberIn y))) (radiusAt t r (radiusNumberIn y)) (codewordIn y) ≡ judgeRecord e t r y
+    pub record-judged : radiusNumberIn y < radiiOf row → judgeIn row (radiusAt row (radiusNumberIn y)) (codewordIn y) ≡ judgeRecord row r y
     unfolding judgeRecord
-    record-judged h = rw (eq-eqb (rowIn y) r here, lt-leb (radiiOf t r) (radiusNumberIn y) h) refl
+    record-judged h = rw (eq-eqb (rowIn y) r here, lt-leb (radiiOf row) (radiusNumberIn y) h) refl
+
+-- an answer that is not sound needs nothing found
+none-handed : (row : List ℕ) (j : Judged) (found : Found) → NotSound j → Handed row j found
+none-handed row (judged.Sound k n) found none = absurd none
+none-handed row (judged.Mended k n) found none = tt
+none-handed row judged.Missing found none = tt
+none-handed row judged.Contested found none = tt
+none-handed row (judged.Unreadable reason) found none = tt
+
+pub seen-as : (row : List ℕ) (seen : Seen) {j answer : Judged} → seen .judged ≡ j → NotSound j → j ≡ answer
+    → (seen .judged ≡ answer) × Handed row (seen .judged) (seen .found)
+seen-as row seen is-j none same = (is-j ∙ same, none-handed row (seen .judged) (seen .found) (rw is-j none))

@@ -5,10 +5,10 @@ use mathlib.Core.List.{List}
 use mathlib.Core.Path.{_≡_, refl, sym}
 use borrow.Author.Tests.{lt-ltb, le-ltb, ne-eqb}
 use Rattle.answers.specs.Checks.{pick}
-use Rattle.enumeration.specs.Enumeration.{Enumeration}
-use Rattle.rules.specs.Cell.{stateOf, recordIn, contestedCell, byState, sameBytes}
+use Rattle.records.specs.Record.{sameBytes}
+use Rattle.layout.specs.Layout.{Cell}
 use Rattle.rules.specs.Judging.{judgeRecord, judge}
-use Rattle.rules.specs.Taking.{names, badCell, takeCell}
+use Rattle.rules.specs.Taking.{namesPlace, contestedCell, byState, badCell, takeCell}
 use Rattle.rules.specs.declared.Judged.the-variants as judged
 
 -- a state that is neither 0 nor 1
@@ -17,32 +17,32 @@ by-state-else zero empty held contested a b = absurd (a refl)
 by-state-else (suc zero) empty held contested a b = absurd (b refl)
 by-state-else (suc (suc n)) empty held contested a b = refl
 
-module _ (p : ℕ) (c : List ℕ) where
-  pub bad-above : 2 < stateOf c → true ≡ badCell p c
+module _ (p : ℕ) (c : Cell) where
+  pub bad-above : 2 < c .state → true ≡ badCell p c
   unfolding badCell
-  bad-above h = rw (lt-ltb 2 (stateOf c) h) refl
+  bad-above h = rw (lt-ltb 2 (c .state) h) refl
 
-  pub not-held : stateOf c ≤ 2 → (stateOf c ≡ 1 → ⊥) → false ≡ badCell p c
+  pub not-held : c .state ≤ 2 → (c .state ≡ 1 → ⊥) → false ≡ badCell p c
   unfolding badCell
-  not-held h e = rw (le-ltb 2 (stateOf c) h, ne-eqb (stateOf c) 1 e) refl
+  not-held h e = rw (le-ltb 2 (c .state) h, ne-eqb (c .state) 1 e) refl
 
-  pub held-foreign : stateOf c ≡ 1 → not (names (recordIn c) p) ≡ badCell p c
+  pub held-foreign : c .state ≡ 1 → not (namesPlace (c .bytes) p) ≡ badCell p c
   unfolding badCell
-  held-foreign e = rw e (sym (or-false (not (names (recordIn c) p))))
+  held-foreign e = rw e (sym (or-false (not (namesPlace (c .bytes) p))))
 
-pub takes-else : (x c : List ℕ) → (stateOf c ≡ 0 → ⊥) → (stateOf c ≡ 1 → ⊥) → c ≡ takeCell x c
+pub takes-else : (x : List ℕ) (c : Cell) → (c .state ≡ 0 → ⊥) → (c .state ≡ 1 → ⊥) → c ≡ takeCell x c
 unfolding takeCell
-takes-else x c a b = sym (by-state-else (stateOf c) _ (pick (sameBytes (recordIn c) x) c contestedCell) c a b)
+takes-else x c a b = sym (by-state-else (c .state) _ (pick (sameBytes (c .bytes) x) c contestedCell) c a b)
 
-module _ (e : Enumeration) (t : List ℕ) (r : ℕ) (c : List ℕ) where
-  pub judges-missing : stateOf c ≡ 0 → judged.Missing ≡ judge e t r c
+module _ (row : List ℕ) (r : ℕ) (c : Cell) where
+  pub judges-missing : c .state ≡ 0 → judged.Missing ≡ judge row r c
   unfolding judge
   judges-missing h = rw h refl
 
-  pub judges-held : stateOf c ≡ 1 → judgeRecord e t r (recordIn c) ≡ judge e t r c
+  pub judges-held : c .state ≡ 1 → judgeRecord row r (c .bytes) ≡ judge row r c
   unfolding judge
   judges-held h = rw h refl
 
-  pub judges-contested : (stateOf c ≡ 0 → ⊥) → (stateOf c ≡ 1 → ⊥) → judged.Contested ≡ judge e t r c
+  pub judges-contested : (c .state ≡ 0 → ⊥) → (c .state ≡ 1 → ⊥) → judged.Contested ≡ judge row r c
   unfolding judge
-  judges-contested a b = sym (by-state-else (stateOf c) judged.Missing (judgeRecord e t r (recordIn c)) judged.Contested a b)
+  judges-contested a b = sym (by-state-else (c .state) judged.Missing (judgeRecord row r (c .bytes)) judged.Contested a b)

@@ -49,8 +49,8 @@ pub record Names (m : Numbering) (n : ℕ) : Type 0 where
 
 -- where n stands: in the range for s, which starts there
 pub record IsFound (m : Numbering) (n : ℕ) (found : Found) : Type 0 where
-  pub range-s : found .range .s ≡ rangeOf (m .length .0) (m .radius .0) n
-  pub range-start : found .range .start ≡ O (found .range .s) (m .length .0) (m .radius .0)
+  pub range-s : found .s ≡ rangeOf (m .length .0) (m .radius .0) n
+  pub range-start : found .start ≡ O (found .s) (m .length .0) (m .radius .0)
 
 -- what a search for n is to answer
 abbrev pub Seeks : Numbering → ℕ → Sought → Type 0

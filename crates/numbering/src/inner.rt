@@ -21,7 +21,17 @@ pub struct Numbering {
 
 // Where an index stands among the others, as a search found it.
 pub struct Found {
-    pub range: Range,
+    pub s: usize,
+    pub start: u64,
+}
+
+fn range_of(found: Found) -> Range
+    ensures { λ r. ⌜ (r .s ≡ found .s) × (r .start ≡ found .start) ⌝ }
+{
+    Range {
+        s: found.s,
+        start: found.start,
+    }
 }
 
 // An index that was sought: it names a point and stands here, or it is past the end, and there are so many.
@@ -67,11 +77,9 @@ pub fn index(numbering: Numbering, x: &[i32]) -> u64
 
 // What stands for an index where there is none.
 pub fn nowhere() -> Found
-    ensures { λ f. ⌜ (f .range .s ≡ 0) × (f .range .start ≡ 0) ⌝ }
+    ensures { λ f. ⌜ (f .s ≡ 0) × (f .start ≡ 0) ⌝ }
 {
-    Found {
-        range: Range { s: 0, start: 0 },
-    }
+    Found { s: 0, start: 0 }
 }
 
 // Where an index stands.
@@ -79,8 +87,10 @@ pub fn find(numbering: Numbering, n: u64) -> Found
     requires { ⌜ Usable numbering ⌝ }
     ensures { λ f. ⌜ IsFound numbering n f ⌝ }
 {
+    let range = locate(numbering.length, numbering.radius, n);
     Found {
-        range: locate(numbering.length, numbering.radius, n),
+        s: range.s,
+        start: range.start,
     }
 }
 
@@ -92,12 +102,11 @@ pub fn seek(numbering: Numbering, n: u64) -> Sought
     let length = numbering.length;
     let radius = numbering.radius;
     let found = find(numbering, n);
-    let range = found.range;
-    if holds(range, length, radius, n) {
+    if holds(range_of(found), length, radius, n) {
         return Sought::At(found);
     }
     Sought::Past {
-        total: ranges::inner::total(length, radius, range.start),
+        total: ranges::inner::total(length, radius, found.start),
     }
 }
 
@@ -106,5 +115,5 @@ pub fn write_point(numbering: Numbering, n: u64, found: Found, out: &mut [i32])
     requires { ⌜ Names numbering n × IsFound numbering n found × (listed.length (now out) ≡ numbering .length .0) ⌝ }
     ensures { λ _. ⌜ now (out .exit) ≡ pointIn numbering n ⌝ }
 {
-    read::write_point(numbering.length, numbering.radius, n, found.range, out);
+    read::write_point(numbering.length, numbering.radius, n, range_of(found), out);
 }

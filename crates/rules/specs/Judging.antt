@@ -24,12 +24,16 @@ judgeCodeword total k n =
     pick (leb (2 ^ width total) n) (judged.Unreadable 14)
     (pick (ltb n total) (judged.Sound k n) (judged.Mended k (n - 2 ^ (width total - 1))))
 
+-- a codeword of the shell of radius k in a row
+abbrev pub judgeIn : List ℕ → ℕ → ℕ → Judged
+judgeIn row k n = judgeCodeword (shellTotal row k) k n
+
 -- row byte not the place's row: unreadable 9; radius number not in that row: unreadable 10
 unfoldable pub judgeRecord : List ℕ → ℕ → List ℕ → Judged
 judgeRecord row r y =
     pick (not (eqb (rowIn y) r)) (judged.Unreadable 9)
     (pick (leb (radiiOf row) (radiusNumberIn y)) (judged.Unreadable 10)
-    (judgeCodeword (shellTotal row (radiusAt row (radiusNumberIn y))) (radiusAt row (radiusNumberIn y)) (codewordIn y)))
+    (judgeIn row (radiusAt row (radiusNumberIn y)) (codewordIn y)))
 
 -- state 0: missing; state 2: contested; a held record is judged
 unfoldable pub judge : List ℕ → ℕ → Cell → Judged

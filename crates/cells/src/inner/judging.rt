@@ -1,32 +1,35 @@
-// The answer of a cell, in a row of a good table.
-use counts::Length;
+// The answer of a cell, in a good row.
 use counts::Radius;
-use product::inner::range::holds;
-use product::inner::range::locate;
+use numbering::inner::Found;
+use numbering::inner::Sought;
+use numbering::inner::nowhere;
+use numbering::inner::of_row;
+use numbering::inner::seek;
 use ranges::inner::power;
-use ranges::inner::total;
 use records::inner::codeword_in;
 use records::inner::radius_number_in;
 use records::inner::row_in;
-use rows::inner::row;
+use rows::inner::row::radii;
 use rules::Judged;
 use shell::width;
 ghost use mathlib.Core.Path.{_≡_};
 ghost use Prim.Native.Nat.{_^_, _≤_, _<_};
 ghost use lib.ListN.{length};
-ghost use Rattle.counts.specs.Counts.{N};
-ghost use Rattle.enumeration.proofs.Product.{product};
-ghost use Rattle.tables.specs.Usable.{IsUsable};
+ghost use Rattle.tables.specs.Row.{radiiOf, radiusAt, IsRow};
 ghost use Rattle.records.specs.Record.{recordLength};
-ghost use Rattle.rules.specs.Cell.{cellLength};
-ghost use Rattle.rules.specs.Judging as rules;
-ghost use Rattle.rules.specs.Judging.{judgeCodeword, judgeRecord};
-ghost use Rattle.cells.specs.Bounds.{InTable};
+ghost use Rattle.rules.specs.Judging.{judgeCodeword, judgeIn, judgeRecord};
+ghost use Rattle.cells.specs.Seen.{NotSound, Handed, Sees};
+
+// The answer of a cell, and where the index of a sound one stands, so that the point need not be sought again.
+pub struct Seen {
+    pub judged: Judged,
+    pub found: Found,
+}
 
 // A codeword from the total on: past the width, or mended.
 fn judge_past(total: u64, radius: Radius, n: u64) -> Judged
     requires { ⌜ (0 < total) × (total ≤ 2 ^ 32) × (total ≤ n) ⌝ }
-    ensures { λ r. ⌜ r ≡ judgeCodeword total (radius .0) n ⌝ }
+    ensures { λ r. ⌜ (r ≡ judgeCodeword total (radius .0) n) × NotSound r ⌝ }
 {
     let b = width(total) as usize;
     if power(b) <= n {
@@ -38,51 +41,60 @@ fn judge_past(total: u64, radius: Radius, n: u64) -> Judged
     }
 }
 
-// A codeword of a shell. Below N it is below 2^b too; where no range holds it, the last one ends at N.
-fn judge_codeword(length: Length, radius: Radius, n: u64) -> Judged
-    requires { ⌜ IsUsable (length .0) (radius .0) ⌝ }
-    ensures { λ r. ⌜ r ≡ judgeCodeword (N (length .0) (radius .0)) (radius .0) n ⌝ }
+// An answer that shows no point, or one that is still to be sought.
+fn unseen(judged: Judged) -> Seen
+    ensures { λ r. ⌜ r .judged ≡ judged ⌝ }
 {
-    let range = locate(length, radius, n);
-    if holds(range, length, radius, n) {
-        return Judged::Sound {
-            radius: radius.0,
-            index: n,
-        };
+    Seen {
+        judged,
+        found: nowhere(),
     }
-    judge_past(total(length, radius, range.start), radius, n)
 }
 
-// A held record.
-fn judge_record(table: &[u8], row: usize, bytes: &[u8]) -> Judged
-    requires { ⌜ InTable (now table) row × (length (now bytes) ≡ recordLength) ⌝ }
-    ensures { λ r. ⌜ r ≡ judgeRecord product (now (table .entry)) row (now (bytes .entry)) ⌝ }
+// A codeword of the shell of a radius number. Below the total it is below 2^b too.
+fn judge_codeword(row: &[u8], number: usize, n: u64) -> Seen
+    requires { ⌜ IsRow (now row) × (number < radiiOf (now row)) ⌝ }
+    ensures { λ r. ⌜ (r .judged ≡ judgeIn (now (row .entry)) (radiusAt (now (row .entry)) number) n) × Handed (now (row .entry)) (r .judged) (r .found) ⌝ }
 {
-    if row_in(bytes) != row {
-        return Judged::Unreadable { reason: 9 };
+    let numbering = of_row(row, number);
+    let radius = numbering.radius;
+    match seek(numbering, n) {
+        Sought::At(found) => Seen {
+            judged: Judged::Sound {
+                radius: radius.0,
+                index: n,
+            },
+            found,
+        },
+        Sought::Past { total } => unseen(judge_past(total, radius, n)),
     }
-    let number = radius_number_in(bytes);
-    if row::radii(table, row) <= number {
-        return Judged::Unreadable { reason: 10 };
+}
+
+// A held record, in the row of this number.
+fn judge_record(row: &[u8], number: usize, bytes: &[u8]) -> Seen
+    requires { ⌜ IsRow (now row) × (length (now bytes) ≡ recordLength) ⌝ }
+    ensures { λ r. ⌜ (r .judged ≡ judgeRecord (now (row .entry)) number (now (bytes .entry))) × Handed (now (row .entry)) (r .judged) (r .found) ⌝ }
+{
+    if row_in(bytes) != number {
+        return unseen(Judged::Unreadable { reason: 9 });
     }
-    judge_codeword(
-        row::length(table, row),
-        row::radius(table, row, number),
-        codeword_in(bytes),
-    )
+    let chosen = radius_number_in(bytes);
+    if radii(row) <= chosen {
+        return unseen(Judged::Unreadable { reason: 10 });
+    }
+    judge_codeword(row, chosen, codeword_in(bytes))
 }
 
 // A cell by its state.
-pub fn judge(table: &[u8], row: usize, cell: &[u8]) -> Judged
-    requires { ⌜ InTable (now table) row × (length (now cell) ≡ cellLength) ⌝ }
-    ensures { λ r. ⌜ r ≡ rules.judge product (now (table .entry)) row (now (cell .entry)) ⌝ }
+pub fn judge(row: &[u8], number: usize, state: u8, bytes: &[u8]) -> Seen
+    requires { ⌜ IsRow (now row) × (length (now bytes) ≡ recordLength) ⌝ }
+    ensures { λ r. ⌜ Sees (now (row .entry)) number (record { state = state; bytes = now (bytes .entry) }) r ⌝ }
 {
-    let state = cell[0];
     if state == 0 {
-        return Judged::Missing;
+        return unseen(Judged::Missing);
     }
     if state != 1 {
-        return Judged::Contested;
+        return unseen(Judged::Contested);
     }
-    judge_record(table, row, &cell[1..])
+    judge_record(row, number, bytes)
 }

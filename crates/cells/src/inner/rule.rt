@@ -1,92 +1,67 @@
-// A cell, 9 bytes of the page: where it stands, whether refusal 12 is given for it, and the page rule.
+// Whether refusal 12 is given for a cell, and the page rule.
+use layout::inner::record_at;
+use layout::inner::set_cell;
+use layout::inner::state_at;
 use records::inner::place_in;
+use records::inner::same;
 ghost use mathlib.Core.Path.{_≡_};
-ghost use mathlib.Core.List.{_∷_};
-ghost use Prim.Native.Nat.{_*_, _≤_};
 ghost use lib.ListN.{length};
 ghost use Rattle.records.specs.Record.{recordLength};
-ghost use Rattle.rules.specs.Cell.{cellLength, sameBytes};
+ghost use Rattle.layout.specs.Bounds.{InPage};
+ghost use Rattle.layout.specs.Layout.{cellAt, setCell};
 ghost use Rattle.rules.specs.Taking.{badCell, arriveCell, takeCell};
 
-// Where the cell of a place begins in the page. The next one begins where it ends, and the page ends where one past the last would begin.
-pub fn start(place: usize) -> usize
-    requires { ⌜ place ≤ 4096 ⌝ }
-    ensures { λ r. ⌜ r ≡ cellLength * place ⌝ }
-{
-    9 * place
-}
-
 // Whether the cell of a place has a state above 2, or holds a record of another place.
-pub fn bad_cell(place: usize, cell: &[u8]) -> bool
-    requires { ⌜ length (now cell) ≡ cellLength ⌝ }
-    ensures { λ b. ⌜ b ≡ badCell place (now (cell .entry)) ⌝ }
+fn bad_cell(place: usize, state: u8, bytes: &[u8]) -> bool
+    requires { ⌜ length (now bytes) ≡ recordLength ⌝ }
+    ensures { λ b. ⌜ b ≡ badCell place (record { state = state; bytes = now (bytes .entry) }) ⌝ }
 {
-    let state = cell[0];
     if 2 < state {
         return true;
     }
     if state != 1 {
         return false;
     }
-    place_in(&cell[1..]) != place
+    place_in(bytes) != place
 }
 
-// Whether the bytes are the same.
-fn same(a: &[u8], b: &[u8]) -> bool
-    requires { ⌜ length (now a) ≡ length (now b) ⌝ }
-    ensures { λ r. ⌜ r ≡ sameBytes (now (a .entry)) (now (b .entry)) ⌝ }
+// The same of a place in a page.
+pub fn bad_at(page: &[u8], places: usize, place: usize) -> bool
+    requires { ⌜ InPage (now page) places place ⌝ }
+    ensures { λ b. ⌜ b ≡ badCell place (cellAt (now (page .entry)) place) ⌝ }
 {
-    let mut at = 0;
-    while at < a.len() {
-        if a[at] != b[at] {
-            return false;
-        }
-        at += 1;
-    }
-    true
-}
-
-// A state and a record into the cell.
-fn fill(state: u8, bytes: &[u8], cell: &mut [u8])
-    requires { ⌜ (length (now bytes) ≡ recordLength) × (length (now cell) ≡ cellLength) ⌝ }
-    ensures { λ _. ⌜ now (cell .exit) ≡ state ∷ now (bytes .entry) ⌝ }
-{
-    cell[0] = state;
-    let mut at = 0;
-    while at < bytes.len() {
-        cell[1 + at] = bytes[at];
-        at += 1;
-    }
+    let state = state_at(page, places, place);
+    bad_cell(place, state, record_at(page, places, place))
 }
 
 // The page rule: empty becomes held, held with other bytes becomes contested, and otherwise the cell stays.
-fn take_cell(bytes: &[u8], cell: &mut [u8])
-    requires { ⌜ (length (now bytes) ≡ recordLength) × (length (now cell) ≡ cellLength) ⌝ }
-    ensures { λ _. ⌜ now (cell .exit) ≡ takeCell (now (bytes .entry)) (now (cell .entry)) ⌝ }
+fn take_cell(page: &mut [u8], places: usize, place: usize, bytes: &[u8])
+    requires { ⌜ InPage (now page) places place × (length (now bytes) ≡ recordLength) ⌝ }
+    ensures { λ _. ⌜ now (page .exit) ≡ setCell (now (page .entry)) place (takeCell (now (bytes .entry)) (cellAt (now (page .entry)) place)) ⌝ }
 {
-    let state = cell[0];
+    let state = state_at(page, places, place);
     if state == 0 {
-        fill(1, bytes, cell);
+        set_cell(page, places, place, 1, bytes);
         return;
     }
     if state != 1 {
         return;
     }
-    if same(&cell[1..], bytes) {
+    if same(record_at(page, places, place), bytes) {
         return;
     }
     let zeros = [0u8; 8];
-    fill(2, &zeros, cell);
+    set_cell(page, places, place, 2, &zeros);
 }
 
 // A record into the cell of its place, unless refusal 12 is given for it; whether it is given.
-pub fn arrive(place: usize, bytes: &[u8], cell: &mut [u8]) -> bool
-    requires { ⌜ (length (now bytes) ≡ recordLength) × (length (now cell) ≡ cellLength) ⌝ }
-    ensures { λ b. ⌜ (b ≡ badCell place (now (cell .entry))) × (now (cell .exit) ≡ arriveCell place (now (bytes .entry)) (now (cell .entry))) ⌝ }
+pub fn arrive(page: &mut [u8], places: usize, place: usize, bytes: &[u8]) -> bool
+    requires { ⌜ InPage (now page) places place × (length (now bytes) ≡ recordLength) ⌝ }
+    ensures { λ b. ⌜ (b ≡ badCell place (cellAt (now (page .entry)) place)) × (now (page .exit) ≡ setCell (now (page .entry)) place (arriveCell place (now (bytes .entry)) (cellAt (now (page .entry)) place))) ⌝ }
 {
-    if bad_cell(place, cell) {
+    if bad_at(page, places, place) {
         return true;
     }
-    take_cell(bytes, cell);
+    take_cell(page, places, place, bytes);
     false
 }

@@ -1,4 +1,5 @@
 -- `numbering::inner::find` looks for the range of an index. Assumes nothing.
+use borrow.Author.Needs.{needs}
 use Rattle.numbering.specs.Numbered.{enumerationIn}
 use Rattle.numbering.proofs.inner.find.Statement.{statement}
 use Rattle.numbering.proofs.inner.find.Tie as tie
@@ -7,8 +8,5 @@ locate-requires : tie.Need-locate-requires
 unfolding enumerationIn
 locate-requires c κs = c .pre
 
-returns : tie.Need-returns
-returns c = record { range-s = c .locate .ensures .0; range-start = c .locate .ensures .1 }
-
 pub find-spec : {M : Type 1} → statement M
-find-spec = tie.close (tie.spec locate-requires returns)
+find-spec = tie.close (tie.spec locate-requires (λ c. search needs))

@@ -17,7 +17,7 @@ at-last l k n s start e f h = f ∙ ap (λ (t : ℕ). O t l k) (e ∙ none-above
 
 holds-requires : tie.Need-holds-requires
 unfolding enumerationIn
-holds-requires c κs = (c .before .before .before .before .pre, c .before .find .ensures .range-s)
+holds-requires c κs = (c .before .before .before .before .pre, c .range-of .ensures .0 ∙ c .before .find .ensures .range-s)
 
 returns : tie.Need-returns
 unfolding enumerationIn
@@ -32,7 +32,7 @@ total-requires c κs =
     let l = a .numbering .length .0 in
     let k = a .numbering .radius .0 in
     let found = c .before .before .before .find in
-    at-last l k (a .n) (found .result .range .s) (found .result .range .start) (found .ensures .range-s) (found .ensures .range-start)
+    at-last l k (a .n) (found .result .s) (found .result .start) (found .ensures .range-s) (found .ensures .range-start)
     (ltb-false (a .n) (N l k) (sym (c .before .holds .ensures) ∙ c .if1 .left))
 
 returns-2 : tie.Need-returns-2
@@ -44,4 +44,4 @@ returns-2 c =
 
 pub seek-spec : {M : Type 1} → statement M
 seek-spec =
-    tie.close (tie.spec (λ c κs. search needs) holds-requires returns total-requires returns-2)
+    tie.close (tie.spec (λ c κs. search needs) (λ c κs. search needs) holds-requires returns total-requires returns-2)

@@ -1,33 +1,37 @@
 -- `cells::inner::judging::judge` judges a cell by its state. Assumes nothing.
-use mathlib.Core.Path.{ap, _∙_}
+use mathlib.Core.Path.{_∙_}
 use borrow.Author.Needs.{needs}
-use Rattle.enumeration.proofs.Product.{product}
-use Rattle.rules.specs.Judging.{judgeRecord}
-use Rattle.cells.proofs.Bytes.{record-part}
+use Rattle.cells.proofs.Judging.{seen-as}
 use Rattle.cells.proofs.States.{judges-missing, judges-held, judges-contested}
 use Rattle.cells.proofs.inner.judging.judge.Statement.{statement}
 use Rattle.cells.proofs.inner.judging.judge.Tie as tie
 
 returns : tie.Need-returns
-returns c = let a = c .before .before .before .before .args in judges-missing product (a .table .now) (a .row) (a .cell .now) (search needs)
+returns c =
+    let a = c .before .before .before .before .args in
+    let said =
+    seen-as (a .row .now) (c .unseen .result) (c .unseen .ensures) tt
+    (judges-missing (a .row .now) (a .number) (record { state = a .state; bytes = a .bytes .now }) (c .before .if1 .taken)) in
+    record { is-judged = said .0; handed = said .1 }
 
 returns-2 : tie.Need-returns-2
-returns-2 c = let a = c .before .before .before .before .before .args in judges-contested product (a .table .now) (a .row) (a .cell .now) (search needs) (search needs)
+returns-2 c =
+    let a = c .before .before .before .before .before .args in
+    let said =
+    seen-as (a .row .now) (c .unseen2 .result) (c .unseen2 .ensures) tt
+    (judges-contested (a .row .now) (a .number) (record { state = a .state; bytes = a .bytes .now }) (c .before .before .if1 .left) (c .before .if2 .taken)) in
+    record { is-judged = said .0; handed = said .1 }
 
 returns-3 : tie.Need-returns-3
 returns-3 c =
-    let a = c .before .before .before .before .before .before .before .args in
-    c .judge-record .ensures ∙ ap (judgeRecord product (a .table .now) (a .row)) (record-part (a .cell .now)) ∙ judges-held product (a .table .now) (a .row) (a .cell .now) (search needs)
+    let a = c .before .before .before .before .before .args in
+    let did = c .judge-record .ensures in
+    record {
+      is-judged = did .0 ∙ judges-held (a .row .now) (a .number) (record { state = a .state; bytes = a .bytes .now }) (c .before .if2 .left);
+      handed = did .1;
+    }
 
 pub judge-spec : {M : Type 1} → statement M
 judge-spec =
     tie.close
-    (tie.spec
-    (λ c. search needs)
-    returns
-    returns-2
-    (λ c. search needs)
-    (λ c. search needs)
-    (λ c. search needs)
-    (λ c κs. search needs)
-    returns-3)
+    (tie.spec (λ c κs. search needs) returns (λ c κs. search needs) returns-2 (λ c κs. search needs) returns-3)

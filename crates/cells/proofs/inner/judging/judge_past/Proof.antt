@@ -17,7 +17,7 @@ returns : tie.Need-returns
 returns c =
     let a = c .before .before .before .args in
     let is-power : c .before .power .result ≡ 2 ^ width (a .total) = c .before .power .ensures ∙ ap (λ (b : ℕ). 2 ^ b) (c .before .before .width .ensures) in
-    codeword-past (a .total) (a .radius .0) (a .n) (omega arith)
+    (codeword-past (a .total) (a .radius .0) (a .n) (omega arith), tt)
 
 sub-power : tie.Need-sub-power
 sub-power c =
@@ -47,7 +47,7 @@ returns-2 c =
     let is-width = c .before .before .before .width .ensures in
     let is-power : c .before .before .power .result ≡ 2 ^ width (a .total) = c .before .before .power .ensures ∙ ap (λ (b : ℕ). 2 ^ b) is-width in
     let is-half : c .power2 .result ≡ 2 ^ (width (a .total) - 1) = c .power2 .ensures ∙ ap (λ (b : ℕ). 2 ^ (b - 1)) is-width in
-    rw is-half (codeword-mended (a .total) (a .radius .0) (a .n) (st .pre .0) (omega arith) (st .pre .2))
+    (rw is-half (codeword-mended (a .total) (a .radius .0) (a .n) (st .pre .0) (omega arith) (st .pre .2)), tt)
 
 pub judge-past-spec : {M : Type 1} → statement M
 judge-past-spec =

@@ -1,22 +1,26 @@
--- `cells::inner::rule::arrive` takes a record into a cell, unless refusal 12 is given for it. Assumes nothing.
+-- `cells::inner::rule::arrive` takes a record into the cell of its place, unless refusal 12 is given for it. Assumes nothing.
 use mathlib.Core.Bool.{true, false}
-use mathlib.Core.Path.{_≡_, refl, sym, _∙_}
+use mathlib.Core.Path.{_≡_, sym, _∙_}
 use borrow.Author.Needs.{needs}
+use Rattle.layout.proofs.Cells.{set-back}
+use Rattle.layout.specs.Layout.{cellAt}
 use Rattle.rules.specs.Taking.{badCell}
 use Rattle.cells.proofs.inner.rule.arrive.Statement.{statement}
 use Rattle.cells.proofs.inner.rule.arrive.Tie as tie
 
 returns : tie.Need-returns
 returns c =
-    let a = c .before .before .before .before .before .args in
-    let bad : badCell (a .place) (a .cell .now) ≡ true = sym (c .before .bad-cell .ensures) ∙ c .if1 .taken in
-    (sym bad, rw bad refl)
+    let a = c .before .before .before .before .before in
+    let pg = a .args .page .now in
+    let p = a .args .place in
+    let bad : badCell p (cellAt pg p) ≡ true = sym (c .before .bad-at .ensures) ∙ c .if1 .taken in
+    (sym bad, rw bad (sym (set-back (a .args .places) pg (a .pre .0 .size) p (a .pre .0 .below))))
 
 returns-2 : tie.Need-returns-2
 returns-2 c =
     let a = c .before .before .before .before .before .before .before .before .before .args in
-    let fine : badCell (a .place) (a .cell .now) ≡ false = sym (c .before .before .before .before .before .bad-cell .ensures) ∙ c .before .before .before .before .if1 .left in
-    (sym fine, c .before .before .take-cell .ensures ∙ rw fine refl)
+    let fine : badCell (a .place) (cellAt (a .page .now) (a .place)) ≡ false = sym (c .before .before .before .before .before .bad-at .ensures) ∙ c .before .before .before .before .if1 .left in
+    (sym fine, rw fine (c .before .before .take-cell .ensures))
 
 pub arrive-spec : {M : Type 1} → statement M
 arrive-spec =

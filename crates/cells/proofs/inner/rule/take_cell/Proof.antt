@@ -1,46 +1,69 @@
--- `cells::inner::rule::take_cell` is the page rule on one cell. Assumes nothing.
+-- `cells::inner::rule::take_cell` is the page rule on the cell of a place. Assumes nothing.
 use Prim.Native.Nat.{ℕ}
 use mathlib.Core.Bool.{true, false}
 use mathlib.Core.List.{List}
 use mathlib.Core.Path.{_≡_, refl, sym, ap, _∙_}
 use borrow.Author.Needs.{needs}
+use Rattle.layout.proofs.Cells.{set-back}
+use Rattle.layout.specs.Bounds.{InPage}
+use Rattle.layout.specs.Layout.{cellAt, recordAt, setCell}
+use Rattle.records.specs.Record.{sameBytes}
 use Rattle.rules.proofs.CellRule.{takes-empty, takes-held}
-use Rattle.rules.specs.Cell.{recordIn, sameBytes}
-use Rattle.cells.proofs.Bytes.{record-part}
+use Rattle.rules.specs.Taking.{takeCell}
 use Rattle.cells.proofs.States.{takes-else}
 use Rattle.cells.proofs.inner.rule.take_cell.Statement.{statement}
 use Rattle.cells.proofs.inner.rule.take_cell.Tie as tie
 
+-- a cell that stays leaves the page as it was
+stays : {pg : List ℕ} {places p : ℕ} (x : List ℕ) → InPage pg places p → takeCell x (cellAt pg p) ≡ cellAt pg p → pg ≡ setCell pg p (takeCell x (cellAt pg p))
+stays {pg} {places} {p} x inside same = sym (ap (setCell pg p) same ∙ set-back places pg (inside .size) p (inside .below))
+
+-- what the comparison of the record that is held says
+compared : {held lent : List ℕ} (x : List ℕ) → lent ≡ held → sameBytes lent x ≡ sameBytes held x
+compared x same = ap (λ (y : List ℕ). sameBytes y x) same
+
 returns : tie.Need-returns
-returns c = let a = c .before .before .before .before .before .before .before .before in c .before .before .fill .ensures ∙ sym (takes-empty (a .args .bytes .now) (a .args .cell .now) (search needs))
+returns c =
+    let a = c .before .before .before .before .before .before .before .before .before .args in
+    let pg = a .page .now in
+    c .before .before .set-cell .ensures ∙ ap (setCell pg (a .place)) (sym (takes-empty (a .bytes .now) (cellAt pg (a .place)) (sym (c .before .before .before .before .before .state-at .ensures) ∙ c .before .before .before .before .if1 .taken)))
 
 returns-2 : tie.Need-returns-2
-returns-2 c = let a = c .before .before .before .before .before .args in takes-else (a .bytes .now) (a .cell .now) (search needs) (search needs)
+returns-2 c =
+    let a = c .before .before .before .before .before .before in
+    let state = c .before .before .state-at .ensures in
+    stays (a .args .bytes .now) (a .pre .0)
+    (sym (takes-else (a .args .bytes .now) (cellAt (a .args .page .now) (a .args .place)) (λ e. c .before .if1 .left (state ∙ e)) (λ e. c .if2 .taken (state ∙ e))))
 
 returns-3 : tie.Need-returns-3
 returns-3 c =
-    let a = c .before .before .before .before .before .before .before .before .before .args in
-    let alike : sameBytes (recordIn (a .cell .now)) (a .bytes .now) ≡ true = ap (λ (y : List ℕ). sameBytes y (a .bytes .now)) (sym (record-part (a .cell .now))) ∙ sym (c .before .same .ensures) ∙ search needs in
-    sym (takes-held (a .bytes .now) (a .cell .now) (search needs) ∙ rw alike refl)
+    let a = c .before .before .before .before .before .before .before .before .before .before in
+    let x = a .args .bytes .now in
+    let held = recordAt (a .args .page .now) (a .args .place) in
+    let alike : sameBytes held x ≡ true = sym (compared x (c .before .before .record-at .ensures .0)) ∙ sym (c .before .same .ensures) ∙ c .if3 .taken in
+    stays x (a .pre .0) (takes-held x (cellAt (a .args .page .now) (a .args .place)) (sym (c .before .before .before .before .before .before .state-at .ensures) ∙ c .before .before .before .before .if2 .left) ∙ rw alike refl)
 
 returns-4 : tie.Need-returns-4
 returns-4 c =
-    let a = c .before .before .before .before .before .before .before .before .before .before .before .before .before .before .args in
-    let differ : sameBytes (recordIn (a .cell .now)) (a .bytes .now) ≡ false = ap (λ (y : List ℕ). sameBytes y (a .bytes .now)) (sym (record-part (a .cell .now))) ∙ sym (c .before .before .before .before .before .before .same .ensures) ∙ c .before .before .before .before .before .if3 .left in
-    c .before .before .fill2 .ensures ∙ sym (takes-held (a .bytes .now) (a .cell .now) (search needs) ∙ rw differ refl)
+    let a = c .before .before .before .before .before .before .before .before .before .before .before .before .before .before .before .args in
+    let x = a .bytes .now in
+    let pg = a .page .now in
+    let held = recordAt pg (a .place) in
+    let differ : sameBytes held x ≡ false = sym (compared x (c .before .before .before .before .before .before .before .record-at .ensures .0)) ∙ sym (c .before .before .before .before .before .before .same .ensures) ∙ c .before .before .before .before .before .if3 .left in
+    c .before .before .set-cell2 .ensures
+    ∙ ap (setCell pg (a .place)) (sym (takes-held x (cellAt pg (a .place)) (sym (c .before .before .before .before .before .before .before .before .before .before .before .state-at .ensures) ∙ c .before .before .before .before .before .before .before .before .before .if2 .left) ∙ rw differ refl))
 
 pub take-cell-spec : {M : Type 1} → statement M
 take-cell-spec =
     tie.close
     (tie.spec
-    (λ c. search needs)
+    (λ c κs. search needs)
     (λ c κs. search needs)
     (λ c. search needs)
     returns
+    (λ c. search needs)
     returns-2
-    (λ c. search needs)
-    (λ c. search needs)
-    (λ c. search needs)
+    (λ c κs. search needs)
     (λ c κs. search needs)
     (λ c. search needs)
     returns-3

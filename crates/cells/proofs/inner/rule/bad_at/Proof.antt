@@ -1,0 +1,14 @@
+-- `cells::inner::rule::bad_at` tests the cell of a place. Assumes nothing.
+use mathlib.Core.Path.{ap, _∙_}
+use borrow.Author.Needs.{needs}
+use Rattle.layout.proofs.Cells.{same-cell}
+use Rattle.rules.specs.Taking.{badCell}
+use Rattle.cells.proofs.inner.rule.bad_at.Statement.{statement}
+use Rattle.cells.proofs.inner.rule.bad_at.Tie as tie
+
+returns : tie.Need-returns
+returns c = c .bad-cell .ensures ∙ ap (badCell (c .before .before .before .before .args .place)) (same-cell (c .before .before .state-at .ensures) (c .before .record-at .ensures .0))
+
+pub bad-at-spec : {M : Type 1} → statement M
+bad-at-spec =
+    tie.close (tie.spec (λ c κs. search needs) (λ c κs. search needs) (λ c κs. search needs) returns)

@@ -1,0 +1,32 @@
+-- What is seen of a cell: its answer, and what was found of it on the way. Assumes nothing.
+use Prim.Native.Nat.{ℕ}
+use mathlib.Core.List.{List}
+use mathlib.Core.Path.{_≡_}
+use Rattle.numbering.specs.Numbered.{FoundIn}
+use Rattle.numbering.specs.declared.inner.Found.{Found}
+use Rattle.layout.specs.Layout.{Cell}
+use Rattle.rules.specs.Judging.{judge}
+use Rattle.rules.specs.declared.Judged.{Judged}
+use Rattle.rules.specs.declared.Judged.the-variants as judged
+use Rattle.cells.specs.declared.inner.judging.Seen.{Seen}
+
+-- what was found serves to show the answer: of a sound place, where its index stands; of the others nothing was found
+abbrev pub Handed : List ℕ → Judged → Found → Type 0
+Handed row (judged.Sound k n) found = FoundIn row k n found
+Handed row (judged.Mended k n) found = Unit {0}
+Handed row judged.Missing found = Unit {0}
+Handed row judged.Contested found = Unit {0}
+Handed row (judged.Unreadable reason) found = Unit {0}
+
+-- an answer that asks for nothing found
+abbrev pub NotSound : Judged → Type 0
+NotSound (judged.Sound k n) = ⊥
+NotSound (judged.Mended k n) = Unit {0}
+NotSound judged.Missing = Unit {0}
+NotSound judged.Contested = Unit {0}
+NotSound (judged.Unreadable reason) = Unit {0}
+
+-- the answer of the cell c in row number r, and what was found
+pub record Sees (row : List ℕ) (r : ℕ) (c : Cell) (seen : Seen) : Type 0 where
+  pub is-judged : seen .judged ≡ judge row r c
+  pub handed : Handed row (seen .judged) (seen .found)
