@@ -4,7 +4,7 @@ ghost use Prim.Native.Nat.{_≤_, _<_};
 ghost use lib.ListN.{length};
 ghost use Rattle.records.specs.Record.{recordLength};
 ghost use Rattle.layout.specs.Bounds.{InPage};
-ghost use Rattle.layout.specs.Layout.{pageLength, stateAt, recordAt, setCell};
+ghost use Rattle.layout.specs.Layout.{pageLength, pageLengthCheck, stateAt, recordAt, setCell};
 
 // The bytes of a page of so many places.
 pub fn page_length(places: usize) -> usize
@@ -12,6 +12,14 @@ pub fn page_length(places: usize) -> usize
     ensures { λ n. ⌜ n ≡ pageLength places ⌝ }
 {
     9 * places
+}
+
+// Whether a page of so many bytes is not that of so many places.
+pub fn wrong_page(places: usize, bytes: usize) -> bool
+    requires { ⌜ places ≤ 4096 ⌝ }
+    ensures { λ b. ⌜ b ≡ pageLengthCheck places bytes .fails ⌝ }
+{
+    bytes != page_length(places)
 }
 
 // The state of a place. The number of places is what the contract speaks of.

@@ -1,4 +1,2 @@
-pub mod Parts
-pub mod Placed
-pub mod Looking
-pub mod Zeros
+pub mod Opening
+pub mod Naming

@@ -20,7 +20,7 @@ use Rattle.tables.specs.Row.{lengthOf, radiiOf, radiusAt, enumerationOf, shellT
 use Rattle.records.specs.Record.{rowIn, radiusNumberIn, codewordIn}
 use Rattle.layout.specs.Layout.{Cell}
 use Rattle.rules.specs.Taking.{byState}
-use Rattle.rules.specs.Judging.{judgeCodeword, judgeRecord, judge, PointNamed, Shows}
+use Rattle.rules.specs.Judging.{judgeCodeword, judgeRecord, judge, NamesPoint, Shows}
 use Rattle.rules.specs.declared.Judged.the-variants as judged
 
 -- a codeword below 2^b and not below the total: the total is not 1, where b is 0
@@ -67,7 +67,7 @@ total-positive lawful (suc l) k h = omega (arith, lawful .index-below (suc l) k 
 
 -- in a good row whose enumeration is lawful, and names a point by every index below its total
 module _ (row : List ℕ) (lawful : Lawful (enumerationOf row)) (full : Full (enumerationOf row)) (good : GoodRow row) where
-  named : (k n : ℕ) → IsUsable (lengthOf row) k (shellTotal row k) → n < shellTotal row k → PointNamed row k n
+  named : (k n : ℕ) → IsUsable (lengthOf row) k (shellTotal row k) → n < shellTotal row k → NamesPoint row k n
   named k n usable below = record { usable = usable; below = below; named = full (lengthOf row) k n below }
 
   codeword-shows : (k n : ℕ) → IsUsable (lengthOf row) k (shellTotal row k) → Shows row (judgeCodeword (shellTotal row k) k n)

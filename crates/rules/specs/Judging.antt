@@ -59,24 +59,28 @@ reasonOf judged.Missing = 0
 reasonOf judged.Contested = 0
 reasonOf (judged.Unreadable reason) = reason
 
+-- the point that n names in the shell of radius k
+abbrev pub pointNamed : List ℕ → ℕ → ℕ → List ℤ
+pointNamed row k n = enumerationOf row .point (lengthOf row) k n
+
 -- sound and mended have their point; the other three have zeros
 abbrev pub shown : List ℕ → Judged → List ℤ
-shown row (judged.Sound k n) = enumerationOf row .point (lengthOf row) k n
-shown row (judged.Mended k n) = enumerationOf row .point (lengthOf row) k n
+shown row (judged.Sound k n) = pointNamed row k n
+shown row (judged.Mended k n) = pointNamed row k n
 shown row judged.Missing = replicate (lengthOf row) (pos 0)
 shown row judged.Contested = replicate (lengthOf row) (pos 0)
 shown row (judged.Unreadable reason) = replicate (lengthOf row) (pos 0)
 
 -- n names a point of the usable shell of radius k
-pub record PointNamed (row : List ℕ) (k n : ℕ) : Type 0 where
+pub record NamesPoint (row : List ℕ) (k n : ℕ) : Type 0 where
   pub usable : IsUsable (lengthOf row) k (shellTotal row k)
   pub below : n < shellTotal row k
   pub named : enumerationOf row .names (lengthOf row) k n ≡ true
 
 -- what a place shows is such a point; proofs/Shows.antt has it of every cell in a good row
 abbrev pub Shows : List ℕ → Judged → Type 0
-Shows row (judged.Sound k n) = PointNamed row k n
-Shows row (judged.Mended k n) = PointNamed row k n
+Shows row (judged.Sound k n) = NamesPoint row k n
+Shows row (judged.Mended k n) = NamesPoint row k n
 Shows row judged.Missing = Unit {0}
 Shows row judged.Contested = Unit {0}
 Shows row (judged.Unreadable reason) = Unit {0}

@@ -36,6 +36,9 @@ module _ (t : List ℕ) (good : Good t) where
   good-total zero h = omega arith
   good-total (suc r) h = ltb-false 4096 (placesBefore t (suc r)) (row-good r (omega arith) .1 .0)
 
+  pub places-to : placesIn t ≤ 4096
+  places-to = good-total (rowsOf t) (omega arith)
+
 -- the row of a place of a good table
 pub good-place : (t : List ℕ) (p : ℕ) → Good t → p < placesIn t → (rowOf t p < rowsOf t) × GoodRow (rowFor t p)
 good-place t p good h = let below = row-below t p h in (below, good-row t good (rowOf t p) below)

@@ -1,46 +1,35 @@
 // A place looked at, as the readers, the tally and the listing do it: refusal 12, or the answer of its cell.
+use cells::inner::judging::Seen;
 use cells::inner::judging::judge;
-use cells::inner::rule::bad_cell;
-use cells::inner::rule::start;
-use rules::Judged;
-ghost use mathlib.Core.Path.{_≡_};
-ghost use Rattle.enumeration.proofs.Product.{product};
-ghost use Rattle.rules.specs.Cell as cells;
-ghost use Rattle.rules.specs.Judging as rules;
-ghost use Rattle.rules.specs.Taking.{badCell};
-ghost use Rattle.places.specs.Looking.{CellIn, Lookable, looked};
+use cells::inner::rule::bad_at;
+use layout::inner::record_at;
+use layout::inner::state_at;
+ghost use Rattle.cells.specs.Seen.{Sees};
+ghost use Rattle.layout.specs.Bounds.{InPage};
+ghost use Rattle.layout.specs.Layout.{cellAt};
+ghost use Rattle.tables.specs.Row.{IsRow};
+ghost use Rattle.places.specs.Looking.{Looks};
 
 pub enum Looked {
     Bad,
-    At(Judged),
+    At(Seen),
 }
 
-// Whether refusal 12 is given for the cell of a place.
-pub fn bad_at(page: &[u8], place: usize) -> bool
-    requires { ⌜ CellIn (now page) place ⌝ }
-    ensures { λ b. ⌜ b ≡ badCell place (cells.cell (now (page .entry)) place) ⌝ }
+// The answer of the cell of a place in this row, which has this number.
+pub fn judge_at(row: &[u8], number: usize, page: &[u8], places: usize, place: usize) -> Seen
+    requires { ⌜ IsRow (now row) × InPage (now page) places place ⌝ }
+    ensures { λ seen. ⌜ Sees (now (row .entry)) number (cellAt (now (page .entry)) place) seen ⌝ }
 {
-    let from = start(place);
-    let to = start(place + 1);
-    bad_cell(place, &page[from..to])
+    let state = state_at(page, places, place);
+    judge(row, number, state, record_at(page, places, place))
 }
 
-// The answer of the cell of a place in this row.
-pub fn judge_at(table: &[u8], row: usize, page: &[u8], place: usize) -> Judged
-    requires { ⌜ Lookable (now table) row (now page) place ⌝ }
-    ensures { λ j. ⌜ j ≡ rules.judge product (now (table .entry)) row (cells.cell (now (page .entry)) place) ⌝ }
+pub fn look(row: &[u8], number: usize, page: &[u8], places: usize, place: usize) -> Looked
+    requires { ⌜ IsRow (now row) × InPage (now page) places place ⌝ }
+    ensures { λ r. ⌜ Looks (now (row .entry)) number (now (page .entry)) place r ⌝ }
 {
-    let from = start(place);
-    let to = start(place + 1);
-    judge(table, row, &page[from..to])
-}
-
-pub fn look(table: &[u8], row: usize, page: &[u8], place: usize) -> Looked
-    requires { ⌜ Lookable (now table) row (now page) place ⌝ }
-    ensures { λ r. ⌜ r ≡ looked product (now (table .entry)) row (now (page .entry)) place ⌝ }
-{
-    if bad_at(page, place) {
+    if bad_at(page, places, place) {
         return Looked::Bad;
     }
-    Looked::At(judge_at(table, row, page, place))
+    Looked::At(judge_at(row, number, page, places, place))
 }

@@ -1,25 +1,36 @@
 // What a place shows: the number of its answer, the reason, and the point of a sound or mended one or zeros for the others.
-use counts::Length;
+use cells::inner::judging::Seen;
 use counts::Radius;
-use product::inner::range::locate;
-use product::inner::read::write_point;
+use numbering::inner::Found;
+use numbering::inner::find;
+use numbering::inner::of_radius;
+use numbering::inner::write_point;
 use rules::Judged;
 ghost use mathlib.Core.Path.{_≡_};
 ghost use Prim.Native.Nat.{_<_};
 ghost use lib.IntN.{pos};
 ghost use lib.ListN as listed;
 ghost use lib.ListN.{replicate};
-ghost use Rattle.enumeration.proofs.Product.{product};
-ghost use Rattle.enumeration.specs.Reading.{productPoint};
-ghost use Rattle.rules.specs.Judging.{answerNumber, reasonOf, shown, Indexes, Shows};
+ghost use Rattle.cells.specs.Seen.{Handed};
+ghost use Rattle.numbering.specs.Numbered.{FoundIn};
+ghost use Rattle.rules.specs.Judging.{answerNumber, reasonOf, shown, pointNamed, NamesPoint, Shows};
+ghost use Rattle.tables.specs.Row.{lengthOf, IsRow};
 
-// The point of an index below N.
-pub fn write_index(length: Length, radius: Radius, n: u64, out: &mut [i32])
-    requires { ⌜ Indexes product (length .0) (radius .0) n × (listed.length (now out) ≡ length .0) ⌝ }
-    ensures { λ _. ⌜ now (out .exit) ≡ productPoint (length .0) (radius .0) n ⌝ }
+// The point of an index in a row, by where it stands.
+fn write_found(row: &[u8], radius: usize, n: u64, found: Found, out: &mut [i32])
+    requires { ⌜ IsRow (now row) × NamesPoint (now row) radius n × FoundIn (now row) radius n found × (listed.length (now out) ≡ lengthOf (now row)) ⌝ }
+    ensures { λ _. ⌜ now (out .exit) ≡ pointNamed (now (row .entry)) radius n ⌝ }
 {
-    let range = locate(length, radius, n);
-    write_point(length, radius, n, range, out);
+    write_point(of_radius(row, Radius(radius)), n, found, out);
+}
+
+// The same, where it is still to be sought.
+fn write_sought(row: &[u8], radius: usize, n: u64, out: &mut [i32])
+    requires { ⌜ IsRow (now row) × NamesPoint (now row) radius n × (listed.length (now out) ≡ lengthOf (now row)) ⌝ }
+    ensures { λ _. ⌜ now (out .exit) ≡ pointNamed (now (row .entry)) radius n ⌝ }
+{
+    let numbering = of_radius(row, Radius(radius));
+    write_point(numbering, n, find(numbering, n), out);
 }
 
 // Zeros into the whole buffer.
@@ -34,13 +45,14 @@ fn clear(out: &mut [i32])
 }
 
 // The point of a place that is sound or mended, and zeros for the others.
-pub fn show(length: Length, judged: Judged, out: &mut [i32])
-    requires { ⌜ Shows product (length .0) judged × (listed.length (now out) ≡ length .0) ⌝ }
-    ensures { λ _. ⌜ now (out .exit) ≡ shown product (length .0) judged ⌝ }
+pub fn show(row: &[u8], seen: Seen, out: &mut [i32])
+    requires { ⌜ IsRow (now row) × Shows (now row) (seen .judged) × Handed (now row) (seen .judged) (seen .found) × (listed.length (now out) ≡ lengthOf (now row)) ⌝ }
+    ensures { λ _. ⌜ now (out .exit) ≡ shown (now (row .entry)) (seen .judged) ⌝ }
 {
+    let judged = seen.judged;
     match judged {
-        Judged::Sound { radius, index } => write_index(length, Radius(radius), index, out),
-        Judged::Mended { radius, index } => write_index(length, Radius(radius), index, out),
+        Judged::Sound { radius, index } => write_found(row, radius, index, seen.found, out),
+        Judged::Mended { radius, index } => write_sought(row, radius, index, out),
         Judged::Missing => clear(out),
         Judged::Contested => clear(out),
         Judged::Unreadable { reason: _ } => clear(out),
