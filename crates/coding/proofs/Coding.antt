@@ -15,15 +15,15 @@ use Rattle.floats.proofs.Limit.{whole-bound}
 use Rattle.tables.specs.Row.{lengthOf, radiusAt, GoodRow}
 use Rattle.tables.specs.Usable.{IsUsable}
 use Rattle.shares.specs.Shares.{AllUpTo, Sharable, shared}
-use Rattle.vectors.specs.Coefficients.{AllUsable}
+use Rattle.coefficients.specs.Coefficients.{AllUsable}
 use Rattle.coding.specs.Bounds.{Codable}
 use Rattle.coding.specs.Coded.{numberFor, radiusFor, pointFor}
-use Rattle.vectors.specs.Radius.{chosenNumber}
-use Rattle.vectors.specs.Points.{magnitudesOf, totalOf, signedBy, pointOf}
+use Rattle.coefficients.specs.Radius.{chosenNumber}
+use Rattle.coefficients.specs.Points.{magnitudesOf, totalOf, signedBy, pointOf}
 use Rattle.shares.proofs.Mapped.{read-map}
-use Rattle.vectors.proofs.Radii.{number-below, some-total}
+use Rattle.coefficients.proofs.Radii.{number-below, some-total}
 use Rattle.shares.proofs.Sharing.{shared-length, shared-up-to}
-use Rattle.vectors.proofs.Points.{point-on-shell}
+use Rattle.coefficients.proofs.Points.{point-on-shell}
 
 -- the magnitudes of usable coefficients
 pub magnitudes-up-to : (xs : List Float) → AllUsable xs → AllUpTo (2 ^ 23) (magnitudesOf xs)

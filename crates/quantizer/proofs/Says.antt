@@ -19,9 +19,9 @@ use Rattle.tables.specs.Row.{lengthOf, rowsOf}
 use Rattle.tables.specs.Table.{placesIn, rowOf, Surveys}
 use Rattle.tables.proofs.Good.{good-place}
 use Rattle.records.specs.Record.{recordLength, wrongRecord, recordOf}
-use Rattle.vectors.specs.Coefficients.{AllUsable}
+use Rattle.coefficients.specs.Coefficients.{AllUsable}
 use Rattle.coding.specs.Bounds.{Writable}
-use Rattle.vectors.specs.Coefficients.{coefficientCheck, coefficientChecks, coefficientsSay}
+use Rattle.coefficients.specs.Coefficients.{coefficientCheck, coefficientChecks, coefficientsSay}
 use Rattle.coding.specs.Coded.{numberFor, pointFor}
 use Rattle.quantizer.specs.Calls.{wrongLengths, recordFor, quantizeSaysIn, quantizeLeavesIn}
 

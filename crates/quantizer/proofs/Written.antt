@@ -19,9 +19,9 @@ use Rattle.tables.specs.Usable.{IsUsable}
 use Rattle.records.proofs.Fields.{record-holds}
 use Rattle.coding.specs.Coded.{numberFor, radiusFor, pointFor}
 use Rattle.quantizer.specs.Calls.{recordFor}
-use Rattle.vectors.specs.Points.{totalOf}
-use Rattle.vectors.proofs.Points.{point-on-shell}
-use Rattle.vectors.proofs.Radii.{number-below, some-total}
+use Rattle.coefficients.specs.Points.{totalOf}
+use Rattle.coefficients.proofs.Points.{point-on-shell}
+use Rattle.coefficients.proofs.Radii.{number-below, some-total}
 
 module _ (t : List ℕ) (p : ℕ) (xs : List Float) (good : Good t) (h : p < placesIn t) (long : length xs ≡ lengthOf t (rowOf t p)) where
   row-good : GoodRow t (rowOf t p)

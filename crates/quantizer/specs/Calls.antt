@@ -12,7 +12,7 @@ use Rattle.tables.specs.Row.{lengthOf}
 use Rattle.tables.specs.Table.{tableChecks, noSuchPlace, rowOf}
 use Rattle.records.specs.Record.{wrongRecord, recordOf}
 use Rattle.coding.specs.Coded.{numberFor, pointFor}
-use Rattle.vectors.specs.Coefficients.{coefficientChecks}
+use Rattle.coefficients.specs.Coefficients.{coefficientChecks}
 use Rattle.quantizer.specs.declared.Quantized.{Quantized}
 use Rattle.quantizer.specs.declared.Quantized.the-variants as quantized
 

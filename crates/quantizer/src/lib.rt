@@ -1,13 +1,13 @@
 // The call quantize (document 01, "Quantizing into a record"): one vector of coefficients into the record of a place. What it works with stands
-// in `vectors` and `coding`.
+// in `coefficients` and `coding`.
 
 use answers::Refusal;
 use coding::inner::write_record;
+use coefficients::inner::coefficients::Coefficients;
+use coefficients::inner::coefficients::check_coefficients;
 use pairing::inner::survey::Surveyed;
 use pairing::inner::survey::survey;
 use rows::inner::row;
-use vectors::inner::coefficients::Coefficients;
-use vectors::inner::coefficients::check_coefficients;
 ghost use mathlib.Core.Path.{_≡_};
 ghost use Rattle.tables.specs.Row.{lengthOf, rowsOf};
 ghost use Rattle.tables.specs.Table.{Surveys};

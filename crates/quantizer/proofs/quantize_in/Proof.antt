@@ -1,7 +1,7 @@
 -- `quantizer::quantize_in` says and leaves for a good table what the call quantize is to say and leave: refusals 8, 4 and 11, and the record as it was;
 -- or the record of the vector. Assumes nothing.
 use mathlib.Core.Path.{sym, ap, _∙_}
-use Rattle.vectors.specs.Coefficients.{coefficientsMeaning}
+use Rattle.coefficients.specs.Coefficients.{coefficientsMeaning}
 use Rattle.quantizer.proofs.Says.{row-in, writable, quantize-8, quantize-4, quantize-11, quantize-0}
 use borrow.Author.Needs.{needs}
 use Rattle.quantizer.proofs.quantize_in.Statement.{statement}

@@ -2,7 +2,7 @@
 use Prim.Native.Nat.{ℕ}
 use mathlib.Core.Path.{sym, ap, _∙_}
 use Rattle.enumeration.specs.Product.{productIndex}
-use Rattle.vectors.specs.Points.{pointOf}
+use Rattle.coefficients.specs.Points.{pointOf}
 use Rattle.coding.proofs.Coding.{number-is, point-is, codable, zero-coded}
 use borrow.Author.Needs.{needs}
 use Rattle.coding.proofs.inner.code.Statement.{statement}

@@ -16,7 +16,7 @@ use Rattle.enumeration.proofs.Spread.{signed-magnitude}
 use Rattle.floats.specs.Units.{negative}
 use Rattle.floats.specs.Nearest.{nearestWhole}
 use Rattle.shares.specs.Shares.{shared}
-use Rattle.vectors.specs.Points.{magnitudesOf, totalOf, signedBy, pointOf, IsPointOf}
+use Rattle.coefficients.specs.Points.{magnitudesOf, totalOf, signedBy, pointOf, IsPointOf}
 use Rattle.shares.proofs.Mapped.{read-map}
 use Rattle.shares.proofs.Sharing.{shared-length, shared-sum, shared-zero}
 use Rattle.shares.proofs.Remainders.{shared-is, shared-only}

@@ -1,32 +1,31 @@
 // The coefficients of a vector: their check, their magnitudes, and their signs on the magnitudes of a point.
 use answers::Refusal;
+use answers::Verdict;
+use coordinates::inner::signed;
 use floats::inner::is_negative;
 use floats::inner::is_unusable;
 use floats::inner::nearest_whole;
-use product::inner::coordinate::signed;
 ghost use mathlib.Core.Path.{_≡_};
+ghost use mathlib.Core.List.{[], _∷_};
 ghost use lib.ListN.{length};
-ghost use Rattle.vectors.specs.Coefficients.{coefficientsMeaning, coefficientsSay, AllUsable};
-ghost use Rattle.vectors.specs.Points.{magnitudesOf, signedBy};
+ghost use Rattle.answers.specs.Checks.{firstOf};
+ghost use Rattle.answers.specs.Refusals.{verdictMeaning};
+ghost use Rattle.coefficients.specs.Coefficients.{usableChecks, AllUsable};
+ghost use Rattle.coefficients.specs.Points.{magnitudesOf, signedBy};
 ghost use Rattle.shares.specs.Shares.{AllUpTo};
 
-pub enum Coefficients {
-    Usable,
-    Unusable(Refusal),
-}
-
 // The first coordinate at fault is refused.
-pub fn check_coefficients(coefficients: &[f32]) -> Coefficients
-    ensures { λ r. ⌜ coefficientsMeaning r ≡ coefficientsSay (now (coefficients .entry)) ⌝ }
+pub fn check_coefficients(coefficients: &[f32]) -> Verdict
+    ensures { λ r. ⌜ verdictMeaning r ≡ firstOf (usableChecks (now (coefficients .entry))) (0 ∷ []) ⌝ }
 {
     let mut at = 0;
     while at < coefficients.len() {
         if is_unusable(coefficients[at]) {
-            return Coefficients::Unusable(Refusal::UnusableCoefficient { coordinate: at });
+            return Verdict::Refused(Refusal::UnusableCoefficient { coordinate: at });
         }
         at += 1;
     }
-    Coefficients::Usable
+    Verdict::Passed
 }
 
 pub fn write_magnitudes(coefficients: &[f32], out: &mut [u32])

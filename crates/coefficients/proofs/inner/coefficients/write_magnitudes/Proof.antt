@@ -1,4 +1,4 @@
--- `vectors::inner::coefficients::write_magnitudes` fills the buffer with the magnitudes. Assumes nothing.
+-- `coefficients::inner::coefficients::write_magnitudes` fills the buffer with the magnitudes. Assumes nothing.
 use borrow.Author.Needs.{needs}
 use Prim.Native.Nat.{_-_, _≤_}
 use mathlib.Core.Path.{_≡_, sym, _∙_}
@@ -9,8 +9,8 @@ use lib.Ieee.{nan}
 use Rattle.buffers.specs.Written.{written}
 use Rattle.buffers.proofs.Writing.{fills-map, all-written}
 use Rattle.floats.specs.Nearest.{nearestWhole}
-use Rattle.vectors.proofs.inner.coefficients.write_magnitudes.Statement.{statement}
-use Rattle.vectors.proofs.inner.coefficients.write_magnitudes.Tie as tie
+use Rattle.coefficients.proofs.inner.coefficients.write_magnitudes.Statement.{statement}
+use Rattle.coefficients.proofs.inner.coefficients.write_magnitudes.Tie as tie
 
 abbrev Inv-loop : tie.InvT-loop
 Inv-loop coefficients out₀ at₀ out at = (at ≤ length coefficients) × (length out ≡ length coefficients) × (out ≡ written out₀ 0 (map nearestWhole coefficients) at)
@@ -18,29 +18,8 @@ Inv-loop coefficients out₀ at₀ out at = (at ≤ length coefficients) × (len
 abbrev μ-loop : tie.MeasureT-loop
 μ-loop coefficients out₀ at₀ out at = length coefficients - at
 
-loop-holds : tie.Need-loop-holds Inv-loop μ-loop
-loop-holds c = search needs
-
-mul-nearest-whole : tie.Need-mul-nearest-whole Inv-loop μ-loop
-mul-nearest-whole c = search needs
-
-shared-slice-read-nearest-whole : tie.Need-shared-slice-read-nearest-whole Inv-loop μ-loop
-shared-slice-read-nearest-whole c = search needs
-
 nearest-whole-requires : tie.Need-nearest-whole-requires Inv-loop μ-loop
 nearest-whole-requires c κs = c .before .before .before .before .before .pre .0 (c .before .before .loop .at) (omega arith)
-
-mul-out : tie.Need-mul-out Inv-loop μ-loop
-mul-out c = search needs
-
-slice-write-out : tie.Need-slice-write-out Inv-loop μ-loop
-slice-write-out c = search needs
-
-add-at : tie.Need-add-at Inv-loop μ-loop
-add-at c = search needs
-
-loop-less : tie.Need-loop-less Inv-loop μ-loop
-loop-less c = search needs
 
 loop-again : tie.Need-loop-again Inv-loop μ-loop
 loop-again c =
@@ -51,9 +30,6 @@ loop-again c =
       length-set (i .out) (i .at) w ∙ i .inv .1,
       fills-map nearestWhole (a .args .coefficients .now) (a .args .out .now) 0 (i .at) nan (omega arith) (omega arith) (c .nearest-whole .ensures .0) (i .inv .2),
     )
-
-same-length : tie.Need-same-length Inv-loop μ-loop
-same-length c = search needs
 
 returns : tie.Need-returns Inv-loop μ-loop
 returns c =
@@ -68,14 +44,14 @@ write-magnitudes-spec =
     (tie.spec
     Inv-loop
     μ-loop
-    loop-holds
-    mul-nearest-whole
-    shared-slice-read-nearest-whole
+    (λ c. search needs)
+    (λ c. search needs)
+    (λ c. search needs)
     nearest-whole-requires
-    mul-out
-    slice-write-out
-    add-at
-    loop-less
+    (λ c. search needs)
+    (λ c. search needs)
+    (λ c. search needs)
+    (λ c. search needs)
     loop-again
-    same-length
+    (λ c. search needs)
     returns)

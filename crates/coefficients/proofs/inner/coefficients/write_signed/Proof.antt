@@ -1,4 +1,4 @@
--- `vectors::inner::coefficients::write_signed` fills the buffer with the signed magnitudes. Assumes nothing.
+-- `coefficients::inner::coefficients::write_signed` fills the buffer with the signed magnitudes. Assumes nothing.
 use borrow.Author.Needs.{needs, sfits-of}
 use Prim.Native.Nat.{_-_, _≤_}
 use mathlib.Core.Path.{_≡_, sym, ap, _∙_}
@@ -13,11 +13,11 @@ use Rattle.buffers.specs.Written.{written}
 use Rattle.buffers.proofs.Writing.{fills, all-written}
 use Rattle.enumeration.specs.Point.{signed}
 use Rattle.floats.specs.Units.{negative}
-use Rattle.product.proofs.Coordinates.{kept}
-use Rattle.vectors.specs.Points.{signedBy}
-use Rattle.vectors.proofs.Points.{signed-length, signed-at}
-use Rattle.vectors.proofs.inner.coefficients.write_signed.Statement.{statement}
-use Rattle.vectors.proofs.inner.coefficients.write_signed.Tie as tie
+use Rattle.coordinates.proofs.Coordinates.{kept}
+use Rattle.coefficients.specs.Points.{signedBy}
+use Rattle.coefficients.proofs.Points.{signed-length, signed-at}
+use Rattle.coefficients.proofs.inner.coefficients.write_signed.Statement.{statement}
+use Rattle.coefficients.proofs.inner.coefficients.write_signed.Tie as tie
 
 abbrev Inv-loop : tie.InvT-loop
 Inv-loop coefficients magnitudes out₀ at₀ out at = (at ≤ length coefficients) × (length out ≡ length coefficients) × (out ≡ written out₀ 0 (signedBy coefficients magnitudes) at)
@@ -25,41 +25,11 @@ Inv-loop coefficients magnitudes out₀ at₀ out at = (at ≤ length coefficien
 abbrev μ-loop : tie.MeasureT-loop
 μ-loop coefficients magnitudes out₀ at₀ out at = length coefficients - at
 
-loop-holds : tie.Need-loop-holds Inv-loop μ-loop
-loop-holds c = search needs
-
-mul-is-negative : tie.Need-mul-is-negative Inv-loop μ-loop
-mul-is-negative c = search needs
-
-shared-slice-read-is-negative : tie.Need-shared-slice-read-is-negative Inv-loop μ-loop
-shared-slice-read-is-negative c = search needs
-
-is-negative-requires : tie.Need-is-negative-requires Inv-loop μ-loop
-is-negative-requires c κs = search needs
-
-mul-signed : tie.Need-mul-signed Inv-loop μ-loop
-mul-signed c = search needs
-
-shared-slice-read-signed : tie.Need-shared-slice-read-signed Inv-loop μ-loop
-shared-slice-read-signed c = search needs
-
 cast-signed : tie.Need-cast-signed Inv-loop μ-loop
 cast-signed c = record { fits = omega (arith, c .before .before .before .before .before .before .before .pre .0 (c .before .before .before .before .loop .at) (omega arith)) }
 
 signed-requires : tie.Need-signed-requires Inv-loop μ-loop
 signed-requires c κs = c .before .before .before .before .before .before .before .pre .0 (c .before .before .before .before .loop .at) (omega arith)
-
-mul-t14 : tie.Need-mul-t14 Inv-loop μ-loop
-mul-t14 c = search needs
-
-slice-set-from-out : tie.Need-slice-set-from-out Inv-loop μ-loop
-slice-set-from-out c = search needs
-
-add-at : tie.Need-add-at Inv-loop μ-loop
-add-at c = search needs
-
-loop-less : tie.Need-loop-less Inv-loop μ-loop
-loop-less c = search needs
 
 loop-again : tie.Need-loop-again Inv-loop μ-loop
 loop-again c =
@@ -77,9 +47,6 @@ loop-again c =
           (next ∙ sym (signed-at xs ms (i .at) (omega arith) (a .pre .1))) (i .inv .2),
     )
 
-same-length : tie.Need-same-length Inv-loop μ-loop
-same-length c = search needs
-
 returns : tie.Need-returns Inv-loop μ-loop
 returns c =
     let a = c .before .before .before .before in
@@ -94,18 +61,18 @@ write-signed-spec =
     (tie.spec
     Inv-loop
     μ-loop
-    loop-holds
-    mul-is-negative
-    shared-slice-read-is-negative
-    is-negative-requires
-    mul-signed
-    shared-slice-read-signed
+    (λ c. search needs)
+    (λ c. search needs)
+    (λ c. search needs)
+    (λ c κs. search needs)
+    (λ c. search needs)
+    (λ c. search needs)
     cast-signed
     signed-requires
-    mul-t14
-    slice-set-from-out
-    add-at
-    loop-less
+    (λ c. search needs)
+    (λ c. search needs)
+    (λ c. search needs)
+    (λ c. search needs)
     loop-again
-    same-length
+    (λ c. search needs)
     returns)

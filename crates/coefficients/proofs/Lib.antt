@@ -1,3 +1,2 @@
 pub mod Radii
 pub mod Points
-pub mod OneToOne
