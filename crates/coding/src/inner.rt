@@ -1,4 +1,4 @@
-// Its radius number and codeword, and the bytes. Each function says what it asks of its caller.
+// The radius number and the codeword of a vector, and the bytes of its record. Each function says what it asks of its caller.
 use coefficients::inner::coefficients::write_magnitudes;
 use coefficients::inner::coefficients::write_signed;
 use coefficients::inner::radius::choose;
@@ -19,8 +19,9 @@ ghost use Rattle.coefficients.specs.Points.{magnitudesOf, totalOf, pointOf};
 ghost use Rattle.coding.specs.Bounds.{Accepted, Codable};
 ghost use Rattle.coding.specs.Coded.{radiusNumberFor, codewordFor};
 
+// The radius number, and the codeword.
 struct Coded {
-    radius_number: usize,
+    number: usize,
     codeword: u64,
 }
 
@@ -60,22 +61,19 @@ fn code(
     point: &mut [i32],
 ) -> Coded
     requires { ⌜ IsRow (now row) × (length (now coefficients) ≡ lengthOf (now row)) × AllUsable (now coefficients) × (length (now magnitudes) ≡ length (now coefficients)) × (length (now rests) ≡ length (now coefficients)) × (length (now point) ≡ length (now coefficients)) ⌝ }
-    ensures { λ r. ⌜ (r .radius_number ≡ radiusNumberFor (now (row .entry)) (now (coefficients .entry))) × (r .codeword ≡ codewordFor (now (row .entry)) (now (coefficients .entry))) ⌝ }
+    ensures { λ r. ⌜ (r .number ≡ radiusNumberFor (now (row .entry)) (now (coefficients .entry))) × (r .codeword ≡ codewordFor (now (row .entry)) (now (coefficients .entry))) ⌝ }
 {
     let total = measure(coefficients, magnitudes);
-    let radius_number = choose(row, total as usize);
-    let numbering = of_row(row, radius_number);
+    let number = choose(row, total as usize);
+    let numbering = of_row(row, number);
     if numbering.radius.0 == 0 {
         return Coded {
-            radius_number,
+            number,
             codeword: 0,
         };
     }
     let codeword = codeword(numbering, total, coefficients, magnitudes, rests, point);
-    Coded {
-        radius_number,
-        codeword,
-    }
+    Coded { number, codeword }
 }
 
 // The record of a vector at a place of the row of this number.
@@ -97,7 +95,7 @@ pub fn write_record(row: &[u8], number: usize, place: usize, coefficients: &[f32
     write(
         place as u64,
         number as u64,
-        coded.radius_number as u64,
+        coded.number as u64,
         coded.codeword,
         out,
     );
