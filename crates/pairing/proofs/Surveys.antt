@@ -13,7 +13,7 @@ use Rattle.answers.proofs.InOrder.{Numbered, says-passes, passes-says, passed-s
 use Rattle.tables.specs.Row.{rowLength, IsRow}
 use Rattle.tables.specs.Table.{rowsOf, rowAt, placesIn, Good, placeChecks, rowOf, rowFor, surveySays}
 use Rattle.tables.proofs.Good.{good-place}
-use Rattle.tables.proofs.PlaceChecks.{place-passes}
+use Rattle.tables.proofs.PlaceChecks.{place-numbered, place-passes}
 use Rattle.pairing.specs.Meanings.{surveyMeaning}
 use Rattle.pairing.specs.declared.inner.survey.Surveyed.{Surveyed}
 use Rattle.pairing.specs.declared.inner.survey.Surveyed.the-variants as surveyed
@@ -56,7 +56,12 @@ module _ {checks : List Check} {t : List ℕ} {p places row : ℕ} (found : Surv
       let told : _≡_ {A = List ℕ} (0 ∷ places ∷ row ∷ []) (firstOf (c ∷ []) (0 ∷ placesIn t ∷ rowOf t p ∷ [])) = rw (passes, found .is-places, found .is-row) refl in
       told ∙ passed-says checks (c ∷ []) (0 ∷ placesIn t ∷ rowOf t p ∷ []) (found .passes)
 
--- a surveyed place: its row is one of the table
+-- a table and a place that were found good
+pub place-found : (t : List ℕ) (p : ℕ) {survey : Surveyed} {places row : ℕ} → surveyMeaning survey ≡ surveySays (placeChecks t p) t p
+    → survey ≡ surveyed.Good places row → Surveys (placeChecks t p) t p places row
+place-found t p says told = survey-good (placeChecks t p) t p says (place-numbered t p) told
+
+-- the row of such a place is one of the table
 module _ {t : List ℕ} {p places n : ℕ} (found : Surveys (placeChecks t p) t p places n) where
   placed : Good t × (p < placesIn t)
   placed = place-passes t p (found .passes)
