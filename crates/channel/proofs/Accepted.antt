@@ -13,7 +13,7 @@ use Rattle.enumeration.proofs.Product.{product}
 use Rattle.tables.specs.Row.{lengthOf}
 use Rattle.tables.specs.Table.{placesIn, tableChecks, Good, rowOf}
 use Rattle.records.specs.Record.{wrongRecord}
-use Rattle.vectors.specs.Coefficients.{coefficientChecks}
+use Rattle.coefficients.specs.Coefficients.{coefficientChecks}
 use Rattle.quantizer.specs.Calls.{quantizeRest, recordFor, quantizeSays, quantizeLeaves}
 use Rattle.channel.proofs.Calls.{demand-1}
 use Rattle.channel.proofs.Refusing.{leaves-through}

@@ -22,7 +22,7 @@ use Rattle.tables.specs.Table.{placesIn, tableChecks, checkSays, noSuchPlace, r
 use Rattle.tables.proofs.Seven.{table-of-7}
 use Rattle.pairing.specs.Meanings.{checkMeaning}
 use Rattle.pairing.proofs.OneToOne.{check-one-to-one}
-use Rattle.vectors.specs.Coefficients as vectors
+use Rattle.coefficients.specs.Coefficients as vectors
 use Rattle.quantizer.specs.Calls.{quantizeChecks, quantizeMeaning, quantizeRest, quantizeSays, recordFor, wrongLengths}
 use Rattle.quantizer.proofs.OneToOne.{quantize-one-to-one}
 use Rattle.rules.specs.Cell.{wrongPage}

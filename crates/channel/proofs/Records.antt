@@ -10,9 +10,9 @@ use Rattle.tables.proofs.Good.{good-place}
 use Rattle.tables.proofs.Places.{row-holds}
 use Rattle.coding.specs.Coded.{radiusFor, pointFor}
 use Rattle.quantizer.specs.Calls.{recordFor}
-use Rattle.vectors.specs.Points.{totalOf, IsPointOf}
-use Rattle.vectors.proofs.Points.{point-is, point-only, zero-stays}
-use Rattle.vectors.proofs.Radii.{least-miss, smaller-on-tie, some-total}
+use Rattle.coefficients.specs.Points.{totalOf, IsPointOf}
+use Rattle.coefficients.proofs.Points.{point-is, point-only, zero-stays}
+use Rattle.coefficients.proofs.Radii.{least-miss, smaller-on-tie, some-total}
 use Rattle.quantizer.proofs.Written.{number-in, point-in, record-written}
 use Rattle.channel.specs.Demand2.{Quantizes, QuantizeWrites}
 use Rattle.channel.proofs.Accepted.{Accepted, accepts}

@@ -22,8 +22,8 @@ use Rattle.tables.specs.Table.{placesBefore, rowsBefore}
 use Rattle.shares.specs.Best.{firstBest}
 use Rattle.shares.specs.Shares.{largest, give, shared}
 use Rattle.records.specs.Record.{recordOf}
-use Rattle.vectors.specs.Example.{vector}
-use Rattle.vectors.specs.Radius.{chosenNumber}
+use Rattle.coefficients.specs.Example.{vector}
+use Rattle.coefficients.specs.Radius.{chosenNumber}
 use Rattle.rules.specs.Cell.{cell, setCell, sameBytes}
 use Rattle.rules.specs.Example.{of, first, other}
 use Rattle.rules.specs.Taking.{claims, badCell, takeCell, arrive, after, grown, AllEqual}

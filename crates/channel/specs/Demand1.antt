@@ -17,7 +17,7 @@ use Rattle.points.specs.Calls.{indexChecks, indexMeaning, indexSays, pointCheck
 use Rattle.tables.specs.Row.{lengthOf}
 use Rattle.tables.specs.Table.{placesIn, tableChecks, checkSays, noSuchPlace, rowOf}
 use Rattle.pairing.specs.Meanings.{checkMeaning}
-use Rattle.vectors.specs.Coefficients as vectors
+use Rattle.coefficients.specs.Coefficients as vectors
 use Rattle.quantizer.specs.Calls.{quantizeChecks, quantizeLeaves, quantizeMeaning, quantizeSays, wrongLengths}
 use Rattle.rules.specs.Cell.{wrongPage}
 use Rattle.rules.specs.Taking.{takeRest, takeChecks, takeSays, takeLeaves}

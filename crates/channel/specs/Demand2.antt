@@ -24,8 +24,8 @@ use Rattle.tables.specs.Table.{placesIn, Good, rowOf, InRow}
 use Rattle.records.specs.Record.{Holds}
 use Rattle.coding.specs.Coded.{numberFor, radiusFor, pointFor}
 use Rattle.quantizer.specs.Calls.{quantizeSays, quantizeLeaves}
-use Rattle.vectors.specs.Points.{totalOf, IsPointOf}
-use Rattle.vectors.specs.Radius.{missBy}
+use Rattle.coefficients.specs.Points.{totalOf, IsPointOf}
+use Rattle.coefficients.specs.Radius.{missBy}
 use Rattle.rules.specs.Judging.{judgeAt, answerNumber, Shows, shown}
 use Rattle.rules.specs.Reading.{valueAt}
 use Rattle.rules.specs.Tallying.{countOf, tallySays}

@@ -12,7 +12,7 @@ use Rattle.enumeration.specs.Product.{productIndex}
 use Rattle.enumeration.specs.Signs.{flipped}
 use Rattle.enumeration.proofs.Product.{product}
 use Rattle.tables.specs.Example.{wholeCase}
-use Rattle.vectors.specs.Example.{vector}
+use Rattle.coefficients.specs.Example.{vector}
 use Rattle.rules.specs.Example.{of, first, second, other, page, zeros}
 use Rattle.rules.specs.Taking.{grown, AllEqual}
 use Rattle.rules.specs.Reading.{readSays, readLeaves, coefficientCarries}

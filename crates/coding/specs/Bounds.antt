@@ -4,26 +4,26 @@ use mathlib.Core.Path.{_≡_}
 use mathlib.Core.List.{List}
 use lib.Ieee.{Float}
 use lib.ListN.{length}
-use Rattle.tables.specs.Row.{lengthOf, GoodRow, rowsOf}
-use Rattle.tables.specs.Usable.{IsUsable}
+use Rattle.tables.specs.Row.{lengthOf, IsRow}
+use Rattle.numbering.specs.Numbered.{Usable}
+use Rattle.numbering.specs.declared.inner.Numbering.{Numbering}
 use Rattle.records.specs.Record.{recordLength}
-use Rattle.vectors.specs.Coefficients.{AllUsable}
-use Rattle.vectors.specs.Points.{magnitudesOf, totalOf}
+use Rattle.coefficients.specs.Coefficients.{AllUsable}
+use Rattle.coefficients.specs.Points.{magnitudesOf, totalOf}
 
--- the record of a vector can be written: it has passed every check
-pub record Writable (t : List ℕ) (row : ℕ) (xs : List Float) (held : List ℕ) : Type 0 where
-  pub in-table : row < rowsOf t
-  pub row-good : GoodRow t row
-  pub of-length : length xs ≡ lengthOf t row
+-- a vector and the lent record of it have passed every check
+pub record Accepted (row : List ℕ) (xs : List Float) (held : List ℕ) : Type 0 where
+  pub is-row : IsRow row
+  pub of-length : length xs ≡ lengthOf row
   pub all-usable : AllUsable xs
   pub has-room : length held ≡ recordLength
 
--- a vector can be coded at a radius above 0 of a usable shell of its length, if not all of it becomes 0; `parts` are its magnitudes
-pub record Codable (l k total : ℕ) (xs : List Float) (parts : List ℕ) : Type 0 where
-  pub shell-usable : IsUsable l k
-  pub above-0 : 0 < k
+-- a vector can be coded at a radius above 0 of a usable shell of its length, if not all of it becomes 0; `magnitudes` are its own
+pub record Codable (m : Numbering) (total : ℕ) (xs : List Float) (magnitudes : List ℕ) : Type 0 where
+  pub shell-usable : Usable m
+  pub above-0 : 0 < m .radius .0
   pub some : 0 < total
-  pub of-length : length xs ≡ l
+  pub of-length : length xs ≡ m .length .0
   pub all-usable : AllUsable xs
   pub is-total : total ≡ totalOf xs
-  pub is-parts : parts ≡ magnitudesOf xs
+  pub is-magnitudes : magnitudes ≡ magnitudesOf xs

@@ -1,17 +1,21 @@
--- What the coefficients xs become in row r of the table t (document 01, "Quantizing into a record"). Assumes nothing.
+-- What the coefficients xs become in a row of the table (document 01, "Quantizing into a record"). `row` is the bytes of the row. Assumes nothing.
 use Prim.Native.Nat.{ℕ}
 use mathlib.Core.List.{List}
 use lib.Ieee.{Float}
 use lib.IntN.{ℤ}
-use Rattle.vectors.specs.Points.{totalOf, pointOf}
-use Rattle.vectors.specs.Radius.{chosenNumber, chosenRadius}
+use Rattle.tables.specs.Row.{enumerationOf}
+use Rattle.coefficients.specs.Points.{totalOf, pointOf}
+use Rattle.coefficients.specs.Radius.{chosenRadiusNumber, chosenRadius}
 
--- the radius number, the radius and the point
-abbrev pub numberFor : List ℕ → ℕ → List Float → ℕ
-numberFor t r xs = chosenNumber t r (totalOf xs)
+-- the radius number, the radius, the point and the codeword
+abbrev pub radiusNumberFor : List ℕ → List Float → ℕ
+radiusNumberFor row xs = chosenRadiusNumber row (totalOf xs)
 
-abbrev pub radiusFor : List ℕ → ℕ → List Float → ℕ
-radiusFor t r xs = chosenRadius t r (totalOf xs)
+abbrev pub radiusFor : List ℕ → List Float → ℕ
+radiusFor row xs = chosenRadius row (totalOf xs)
 
-abbrev pub pointFor : List ℕ → ℕ → List Float → List ℤ
-pointFor t r xs = pointOf (radiusFor t r xs) xs
+abbrev pub pointFor : List ℕ → List Float → List ℤ
+pointFor row xs = pointOf (radiusFor row xs) xs
+
+abbrev pub codewordFor : List ℕ → List Float → ℕ
+codewordFor row xs = enumerationOf row .index (pointFor row xs)

@@ -1,109 +1,100 @@
-// Its radius number and codeword, and the bytes. Each function says what it asks of its caller.
-use counts::Length;
-use counts::Radius;
-use product::inner::weigh::index_of;
+// The radius number and the codeword of a vector, and the bytes of its record. Each function says what it asks of its caller.
+use coefficients::inner::coefficients::write_magnitudes;
+use coefficients::inner::coefficients::write_signed;
+use coefficients::inner::radius::choose;
+use numbering::inner::Numbering;
+use numbering::inner::index;
+use numbering::inner::of_row;
 use records::inner::write;
-use rows::inner::row;
 use shares::inner::share;
 use shares::inner::sum;
-use vectors::inner::coefficients::write_magnitudes;
-use vectors::inner::coefficients::write_signed;
-use vectors::inner::radius::choose;
 ghost use mathlib.Core.Path.{_≡_};
-ghost use Prim.Native.Nat.{_≤_, _<_};
+ghost use Prim.Native.Nat.{_≤_};
 ghost use lib.ListN.{length};
-ghost use Rattle.enumeration.specs.Product.{productIndex};
-ghost use Rattle.tables.specs.Row.{lengthOf, GoodRow, rowsOf};
+ghost use Rattle.tables.specs.Row.{lengthOf, IsRow};
+ghost use Rattle.numbering.specs.Numbered.{indexIn};
 ghost use Rattle.records.specs.Record.{recordOf};
-ghost use Rattle.vectors.specs.Coefficients.{AllUsable};
-ghost use Rattle.coding.specs.Bounds.{Writable, Codable};
-ghost use Rattle.coding.specs.Coded.{numberFor, pointFor};
-ghost use Rattle.vectors.specs.Points.{magnitudesOf, totalOf, pointOf};
+ghost use Rattle.coefficients.specs.Coefficients.{AllUsable};
+ghost use Rattle.coefficients.specs.Points.{magnitudesOf, totalOf, pointOf};
+ghost use Rattle.coding.specs.Bounds.{Accepted, Codable};
+ghost use Rattle.coding.specs.Coded.{radiusNumberFor, codewordFor};
 
+// The radius number, and the codeword.
 struct Coded {
     number: usize,
     codeword: u64,
 }
 
-// The magnitudes into `parts`, and their sum.
-fn weigh(coefficients: &[f32], parts: &mut [u32]) -> u32
-    requires { ⌜ AllUsable (now coefficients) × (length (now coefficients) ≤ 16) × (length (now parts) ≡ length (now coefficients)) ⌝ }
-    ensures { λ n. ⌜ (n ≡ totalOf (now (coefficients .entry))) × (now (parts .exit) ≡ magnitudesOf (now (coefficients .entry))) ⌝ }
+// The magnitudes of the coefficients, and their sum.
+fn measure(coefficients: &[f32], magnitudes: &mut [u32]) -> u32
+    requires { ⌜ AllUsable (now coefficients) × (length (now coefficients) ≤ 16) × (length (now magnitudes) ≡ length (now coefficients)) ⌝ }
+    ensures { λ n. ⌜ (n ≡ totalOf (now (coefficients .entry))) × (now (magnitudes .exit) ≡ magnitudesOf (now (coefficients .entry))) ⌝ }
 {
-    write_magnitudes(coefficients, parts);
-    sum(parts)
+    write_magnitudes(coefficients, magnitudes);
+    sum(magnitudes)
 }
 
-// The codeword of a radius above 0; `parts` holds the magnitudes, and it and the two after it are room to work in.
+// The codeword of a radius above 0. `magnitudes` holds those of the coefficients, and after share() those of the point; it and the two after it are
+// room to work in.
 fn codeword(
-    l: Length,
-    radius: Radius,
+    numbering: Numbering,
     total: u32,
     coefficients: &[f32],
-    parts: &mut [u32],
+    magnitudes: &mut [u32],
     rests: &mut [u32],
     point: &mut [i32],
 ) -> u64
-    requires { ⌜ Codable (l .0) (radius .0) total (now coefficients) (now parts) × (length (now rests) ≡ length (now coefficients)) × (length (now point) ≡ length (now coefficients)) ⌝ }
-    ensures { λ n. ⌜ n ≡ productIndex (pointOf (radius .0) (now (coefficients .entry))) ⌝ }
+    requires { ⌜ Codable numbering total (now coefficients) (now magnitudes) × (length (now rests) ≡ length (now coefficients)) × (length (now point) ≡ length (now coefficients)) ⌝ }
+    ensures { λ n. ⌜ n ≡ indexIn numbering (pointOf (numbering .radius .0) (now (coefficients .entry))) ⌝ }
 {
-    share(radius.0, total, parts, rests);
-    write_signed(coefficients, parts, point);
-    index_of(l, radius, point)
+    share(numbering.radius.0, total, magnitudes, rests);
+    write_signed(coefficients, magnitudes, point);
+    index(numbering, point)
 }
 
 // The radius number and the codeword; the last three are room to work in. At radius 0 the point is zero, and its index 0.
 fn code(
-    table: &[u8],
-    row: usize,
+    row: &[u8],
     coefficients: &[f32],
-    parts: &mut [u32],
+    magnitudes: &mut [u32],
     rests: &mut [u32],
     point: &mut [i32],
 ) -> Coded
-    requires { ⌜ (row < rowsOf (now table)) × GoodRow (now table) row × (length (now coefficients) ≡ lengthOf (now table) row) × AllUsable (now coefficients) × (length (now parts) ≡ length (now coefficients)) × (length (now rests) ≡ length (now coefficients)) × (length (now point) ≡ length (now coefficients)) ⌝ }
-    ensures { λ r. ⌜ (r .number ≡ numberFor (now (table .entry)) row (now (coefficients .entry))) × (r .codeword ≡ productIndex (pointFor (now (table .entry)) row (now (coefficients .entry)))) ⌝ }
+    requires { ⌜ IsRow (now row) × (length (now coefficients) ≡ lengthOf (now row)) × AllUsable (now coefficients) × (length (now magnitudes) ≡ length (now coefficients)) × (length (now rests) ≡ length (now coefficients)) × (length (now point) ≡ length (now coefficients)) ⌝ }
+    ensures { λ r. ⌜ (r .number ≡ radiusNumberFor (now (row .entry)) (now (coefficients .entry))) × (r .codeword ≡ codewordFor (now (row .entry)) (now (coefficients .entry))) ⌝ }
 {
-    let total = weigh(coefficients, parts);
-    let number = choose(table, row, total as usize);
-    let radius = row::radius(table, row, number);
-    if radius.0 == 0 {
+    let total = measure(coefficients, magnitudes);
+    let number = choose(row, total as usize);
+    let numbering = of_row(row, number);
+    if numbering.radius.0 == 0 {
         return Coded {
             number,
             codeword: 0,
         };
     }
-    let codeword = codeword(
-        row::length(table, row),
-        radius,
-        total,
-        coefficients,
-        parts,
-        rests,
-        point,
-    );
+    let codeword = codeword(numbering, total, coefficients, magnitudes, rests, point);
     Coded { number, codeword }
 }
 
-pub fn write_record(table: &[u8], row: usize, place: usize, coefficients: &[f32], out: &mut [u8])
-    requires { ⌜ Writable (now table) row (now coefficients) (now out) ⌝ }
-    ensures { λ _. ⌜ now (out .exit) ≡ recordOf place row (numberFor (now (table .entry)) row (now (coefficients .entry))) (productIndex (pointFor (now (table .entry)) row (now (coefficients .entry)))) ⌝ }
+// The record of a vector at a place of the row of this number.
+pub fn write_record(row: &[u8], number: usize, place: usize, coefficients: &[f32], out: &mut [u8])
+    requires { ⌜ Accepted (now row) (now coefficients) (now out) ⌝ }
+    ensures { λ _. ⌜ now (out .exit) ≡ recordOf place number (radiusNumberFor (now (row .entry)) (now (coefficients .entry))) (codewordFor (now (row .entry)) (now (coefficients .entry))) ⌝ }
 {
     let n = coefficients.len();
-    let mut parts = [0u32; 16];
+    let mut magnitudes = [0u32; 16];
     let mut rests = [0u32; 16];
     let mut point = [0i32; 16];
     let coded = code(
-        table,
         row,
         coefficients,
-        &mut parts[..n],
+        &mut magnitudes[..n],
         &mut rests[..n],
         &mut point[..n],
     );
     write(
         place as u64,
-        row as u64,
+        number as u64,
         coded.number as u64,
         coded.codeword,
         out,

@@ -1,14 +1,19 @@
--- A survey by any checks: what its answer tells, what a call says and leaves whose survey is refused, and one check more. So every call that begins with
--- a survey is argued in the same way, whatever the checks are. Assumes nothing.
+-- A survey by any checks: what its answer tells, what a call says and leaves whose survey is refused, and one check more; and the row of a surveyed
+-- place, with what a call says and leaves that goes on with that row. So every call that begins with a survey is argued in the same way, whatever the
+-- checks are. Assumes nothing.
 use Prim.Native.Nat.{ℕ, _<_}
-use mathlib.Core.Path.{_≡_, refl, sym, ap, _∙_}
+use mathlib.Core.Path.{_≡_, refl, sym, ap, ap₂, _∙_}
 use mathlib.Core.List.{List, [], _∷_, _++_}
 use mathlib.Core.Bool.{true, false}
+use lib.ListN.{length}
 use Rattle.answers.specs.Refusals.{meaning}
 use Rattle.answers.specs.Checks.{Check, anyOf, firstOf, leaves, failsOf, Passes}
 use Rattle.answers.specs.declared.Refusal.{Refusal}
-use Rattle.answers.proofs.InOrder.{Numbered, says-passes, passes-says, passed-says, refused-says, refused-leaves, refusal-fails}
-use Rattle.tables.specs.Table.{placesIn, rowOf, surveySays}
+use Rattle.answers.proofs.InOrder.{Numbered, says-passes, passes-says, passed-says, passed-leaves, refused-says, refused-leaves, refusal-fails}
+use Rattle.tables.specs.Row.{rowLength, IsRow}
+use Rattle.tables.specs.Table.{rowsOf, rowAt, placesIn, Good, placeChecks, rowOf, rowFor, surveySays}
+use Rattle.tables.proofs.Good.{good-place}
+use Rattle.tables.proofs.PlaceChecks.{place-numbered, place-passes}
 use Rattle.pairing.specs.Meanings.{surveyMeaning}
 use Rattle.pairing.specs.declared.inner.survey.Surveyed.{Surveyed}
 use Rattle.pairing.specs.declared.inner.survey.Surveyed.the-variants as surveyed
@@ -50,3 +55,40 @@ module _ {checks : List Check} {t : List ℕ} {p places row : ℕ} (found : Surv
   one-passes passes =
       let told : _≡_ {A = List ℕ} (0 ∷ places ∷ row ∷ []) (firstOf (c ∷ []) (0 ∷ placesIn t ∷ rowOf t p ∷ [])) = rw (passes, found .is-places, found .is-row) refl in
       told ∙ passed-says checks (c ∷ []) (0 ∷ placesIn t ∷ rowOf t p ∷ []) (found .passes)
+
+-- a table and a place that were found good
+pub place-found : (t : List ℕ) (p : ℕ) {survey : Surveyed} {places row : ℕ} → surveyMeaning survey ≡ surveySays (placeChecks t p) t p
+    → survey ≡ surveyed.Good places row → Surveys (placeChecks t p) t p places row
+place-found t p says told = survey-good (placeChecks t p) t p says (place-numbered t p) told
+
+-- the row of such a place is one of the table
+module _ {t : List ℕ} {p places n : ℕ} (found : Surveys (placeChecks t p) t p places n) where
+  placed : Good t × (p < placesIn t)
+  placed = place-passes t p (found .passes)
+
+  pub number-in : n < rowsOf t
+  number-in = rw (found .is-row) (good-place t p (placed .0) (placed .1) .0)
+
+  -- `row` is what is lent of it
+  module _ {row : List ℕ} (lent : (row ≡ rowAt t n) × (length row ≡ rowLength)) where
+    is-its-row : row ≡ rowFor t p
+    is-its-row = lent .0 ∙ ap (rowAt t) (found .is-row)
+
+    pub row-surveyed : IsRow row
+    row-surveyed = record { sixteen = lent .1; row-good = rw is-its-row (good-place t p (placed .0) (placed .1) .1) }
+
+    -- what is said and left for the row, by its number and bytes, is what is said and left for the place
+    module _ (rest : ℕ → List ℕ → List Check) where
+      pub place-says : (answer : ℕ → List ℕ → List ℕ) {said : List ℕ} → said ≡ firstOf (rest n row) (answer n row)
+          → said ≡ firstOf (placeChecks t p ++ rest (rowOf t p) (rowFor t p)) (answer (rowOf t p) (rowFor t p))
+      place-says answer says =
+          says
+          ∙ ap₂ (λ (m : ℕ) (bytes : List ℕ). firstOf (rest m bytes) (answer m bytes)) (found .is-row) is-its-row
+          ∙ passed-says (placeChecks t p) (rest (rowOf t p) (rowFor t p)) (answer (rowOf t p) (rowFor t p)) (found .passes)
+
+      pub place-leaves : {A : Type 0} (made : ℕ → List ℕ → A) (held : A) {left : A} → left ≡ leaves (rest n row) (made n row) held
+          → left ≡ leaves (placeChecks t p ++ rest (rowOf t p) (rowFor t p)) (made (rowOf t p) (rowFor t p)) held
+      place-leaves made held keeps =
+          keeps
+          ∙ ap₂ (λ (m : ℕ) (bytes : List ℕ). leaves (rest m bytes) (made m bytes) held) (found .is-row) is-its-row
+          ∙ passed-leaves (placeChecks t p) (rest (rowOf t p) (rowFor t p)) (made (rowOf t p) (rowFor t p)) held (found .passes)

@@ -1,18 +1,22 @@
 // The call quantize (document 01, "Quantizing into a record"): one vector of coefficients into the record of a place. What it works with stands
-// in `vectors` and `coding`.
-
+// in `coefficients` and `coding`.
 use answers::Refusal;
+use answers::Verdict;
 use coding::inner::write_record;
+use coefficients::inner::coefficients::check_coefficients;
 use pairing::inner::survey::Surveyed;
-use pairing::inner::survey::survey;
-use rows::inner::row;
-use vectors::inner::coefficients::Coefficients;
-use vectors::inner::coefficients::check_coefficients;
+use pairing::inner::survey::survey_place;
+use records::inner::wrong_record;
+use rows::inner::row::length;
+use rows::inner::row::row_at;
 ghost use mathlib.Core.Path.{_≡_};
-ghost use Rattle.tables.specs.Row.{lengthOf, rowsOf};
-ghost use Rattle.tables.specs.Table.{Surveys};
-ghost use Rattle.quantizer.specs.Calls.{wrongLengths, quantizeMeaning, quantizeSays, quantizeSaysIn, quantizeLeaves, quantizeLeavesIn};
-ghost use Prim.Native.Nat.{_<_};
+ghost use mathlib.Core.List.{[], _∷_};
+ghost use lib.ListN as listed;
+ghost use Rattle.answers.specs.Checks.{firstOf, leaves};
+ghost use Rattle.tables.specs.Row.{IsRow};
+ghost use Rattle.records.specs.Record.{recordOf};
+ghost use Rattle.coding.specs.Coded.{radiusNumberFor, codewordFor};
+ghost use Rattle.quantizer.specs.Calls.{quantizeRest, quantizeMeaning, quantizeSays, quantizeLeaves};
 
 pub enum Quantized {
     Written,
@@ -23,46 +27,40 @@ pub enum Quantized {
 pub fn quantize(table: &[u8], place: usize, coefficients: &[f32], out: &mut [u8]) -> Quantized
     ensures { λ r. ⌜ (quantizeMeaning r ≡ quantizeSays (now (table .entry)) place (now (coefficients .entry)) (now (out .entry))) × (now (out .exit) ≡ quantizeLeaves (now (table .entry)) place (now (coefficients .entry)) (now (out .entry))) ⌝ }
 {
-    match survey(table, place) {
-        Surveyed::Good { places, row } => quantize_in(table, places, row, place, coefficients, out),
+    match survey_place(table, place) {
+        Surveyed::Good { places: _, row } => quantize_at(
+            row_at(table, row),
+            row,
+            place,
+            coefficients,
+            out,
+        ),
         Surveyed::Bad(refusal) => Quantized::Refused(refusal),
     }
 }
 
-// Whether the vector is not as long as the row says, or the record not 8 bytes.
-fn wrong_lengths(table: &[u8], row: usize, vector: usize, bytes: usize) -> bool
-    requires { ⌜ row < rowsOf (now table) ⌝ }
-    ensures { λ b. ⌜ b ≡ wrongLengths (lengthOf (now (table .entry)) row) vector bytes ⌝ }
-{
-    if vector != row::length(table, row).0 {
-        return true;
-    }
-    bytes != 8
-}
-
-// What quantize does with a good table: the checks 8, 4 and 11, and the work.
-fn quantize_in(
-    table: &[u8],
-    places: usize,
-    row: usize,
+// What quantize does at a place of this row, whose number goes into the record: the checks 4, 4 and 11, and the work.
+fn quantize_at(
+    row: &[u8],
+    number: usize,
     place: usize,
     coefficients: &[f32],
     out: &mut [u8],
 ) -> Quantized
-    requires { ⌜ Surveys (now table) place places row ⌝ }
-    ensures { λ r. ⌜ (quantizeMeaning r ≡ quantizeSaysIn (now (table .entry)) place (now (coefficients .entry)) (now (out .entry))) × (now (out .exit) ≡ quantizeLeavesIn (now (table .entry)) place (now (coefficients .entry)) (now (out .entry))) ⌝ }
+    requires { ⌜ IsRow (now row) ⌝ }
+    ensures { λ r. ⌜ (quantizeMeaning r ≡ firstOf (quantizeRest (now (row .entry)) (now (coefficients .entry)) (listed.length (now (out .entry)))) (0 ∷ [])) × (now (out .exit) ≡ leaves (quantizeRest (now (row .entry)) (now (coefficients .entry)) (listed.length (now (out .entry)))) (recordOf place number (radiusNumberFor (now (row .entry)) (now (coefficients .entry))) (codewordFor (now (row .entry)) (now (coefficients .entry)))) (now (out .entry))) ⌝ }
 {
-    if places <= place {
-        return Quantized::Refused(Refusal::NoSuchPlace);
+    if coefficients.len() != length(row).0 {
+        return Quantized::Refused(Refusal::BufferLength);
     }
-    if wrong_lengths(table, row, coefficients.len(), out.len()) {
+    if wrong_record(out.len()) {
         return Quantized::Refused(Refusal::BufferLength);
     }
     match check_coefficients(coefficients) {
-        Coefficients::Usable => {
-            write_record(table, row, place, coefficients, out);
+        Verdict::Passed => {
+            write_record(row, number, place, coefficients, out);
             Quantized::Written
         }
-        Coefficients::Unusable(refusal) => Quantized::Refused(refusal),
+        Verdict::Refused(refusal) => Quantized::Refused(refusal),
     }
 }

@@ -9,7 +9,7 @@ use Rattle.floats.specs.Nearest.{nearestWhole}
 use Rattle.tables.specs.Row.{byteOf, badRadius, badRadii, badRow}
 use Rattle.tables.specs.Table.{placesBefore, rowsBefore}
 use Rattle.shares.specs.Best.{firstBest}
-use Rattle.vectors.specs.Radius.{chosenNumber}
+use Rattle.coefficients.specs.Radius.{chosenNumber}
 use Rattle.shares.specs.Shares.{largest, give, shared}
 use Rattle.records.specs.Record.{recordOf}
 use lib.Ieee.{toBits, lt}

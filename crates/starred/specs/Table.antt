@@ -16,9 +16,9 @@ use Rattle.tables.specs.Example.{wholeCase, twoRows}
 use Rattle.points.specs.Calls.{indexSays, pointSays, pointLeaves}
 use Rattle.coding.specs.Coded.{pointFor}
 use Rattle.quantizer.specs.Calls.{quantizeSays, quantizeLeaves}
-use Rattle.vectors.specs.Example.{vector}
-use Rattle.vectors.specs.Radius.{chosenRadius}
-use Rattle.vectors.specs.Points.{pointOf}
+use Rattle.coefficients.specs.Example.{vector}
+use Rattle.coefficients.specs.Radius.{chosenRadius}
+use Rattle.coefficients.specs.Points.{pointOf}
 
 -- a lent record
 abbrev held : List ℕ

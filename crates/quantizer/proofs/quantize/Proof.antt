@@ -1,46 +1,43 @@
--- `quantizer::quantize` says what the call quantize is to say and leaves what it is to leave: a refusal of the checks of the table, and the record as it
--- was; or else what is said and left for a good table. Assumes nothing.
-use mathlib.Core.Path.{_∙_}
-use mathlib.Core.List.{[], _∷_}
-use lib.ListN.{length}
-use Rattle.answers.proofs.InOrder.{passed-says, passed-leaves}
-use Rattle.tables.specs.Table.{tableChecks}
-use Rattle.pairing.proofs.Surveys.{survey-good}
-use Rattle.pairing.proofs.Refused.{table-says, table-leaves}
-use Rattle.quantizer.specs.Calls.{quantizeRest, recordFor}
+-- `quantizer::quantize` says what the call quantize is to say and leaves what it is to leave: a refusal of the checks of the table and the place, and the
+-- record as it was; or else what is said and left for the row of the place. Assumes nothing.
+use Prim.Native.Nat.{ℕ}
+use mathlib.Core.List.{List, [], _∷_}
 use borrow.Author.Needs.{needs}
+use lib.ListN.{length}
+use Rattle.answers.specs.Checks.{Check}
+use Rattle.tables.specs.Table.{placeChecks, rowFor}
+use Rattle.records.specs.Record.{recordOf}
+use Rattle.pairing.proofs.Surveys.{survey-says, survey-leaves, place-found, number-in, row-surveyed, place-says, place-leaves}
+use Rattle.coding.specs.Coded.{radiusNumberFor, codewordFor}
+use Rattle.quantizer.specs.Calls.{quantizeRest, recordFor}
 use Rattle.quantizer.proofs.quantize.Statement.{statement}
 use Rattle.quantizer.proofs.quantize.Tie as tie
 
-survey-requires : tie.Need-survey-requires
-survey-requires c κs = search needs
+row-at-requires : tie.Need-row-at-requires
+row-at-requires c κs =
+    let a = c .before .before .before .before .before .before .before .args in
+    let t = a .table .now in
+    number-in (place-found t (a .place) (c .before .before .before .survey-place .ensures) (c .before .row .given .1))
 
-enum-known-places : tie.Need-enum-known-places
-enum-known-places c = search needs
-
-quantize-in-requires : tie.Need-quantize-in-requires
-quantize-in-requires c κs =
-    let a = c .before .before .before .before .before .before .before .before .args in
-    let told = c .before .before .places .given in
-    survey-good (a .table .now) (a .place) (told .1) (c .before .before .before .before .survey .ensures)
-
-enum-known-refusal : tie.Need-enum-known-refusal
-enum-known-refusal c = search needs
-
-same-length : tie.Need-same-length
-same-length c = search needs
+quantize-at-requires : tie.Need-quantize-at-requires
+quantize-at-requires c κs =
+    let a = c .before .before .before .before .before .before .before .before .before .args in
+    let t = a .table .now in
+    let found = place-found t (a .place) (c .before .before .before .before .before .survey-place .ensures) (c .before .before .before .row .given .1) in
+    row-surveyed found (c .before .row-at .ensures)
 
 returns : tie.Need-returns
 returns c =
-    let a = c .before .before .before .before .before .before .before .before .before .before .before .args in
+    let a = c .before .before .before .before .before .before .before .before .before .before .before .before .args in
     let t = a .table .now in
     let xs = a .coefficients .now in
     let held = a .out .now in
-    let told = c .before .before .before .before .before .places .given in
-    let good = survey-good t (a .place) (told .1) (c .before .before .before .before .before .before .before .survey .ensures) .good in
-    let rest = quantizeRest t (a .place) xs (length held) in
-    let did = c .before .before .quantize-in .ensures in
-    (did .0 ∙ passed-says (tableChecks t) rest (0 ∷ []) good, did .1 ∙ passed-leaves (tableChecks t) rest (recordFor t (a .place) xs) held good)
+    let found = place-found t (a .place) (c .before .before .before .before .before .before .before .before .survey-place .ensures) (c .before .before .before .before .before .before .row .given .1) in
+    let rest : ℕ → List ℕ → List Check = λ n row. quantizeRest row xs (length held) in
+    let made : ℕ → List ℕ → List ℕ = λ n row. recordOf (a .place) n (radiusNumberFor row xs) (codewordFor row xs) in
+    let lent = c .before .before .before .before .row-at .ensures in
+    let did = c .before .before .quantize-at .ensures in
+    (place-says found lent rest (λ n row. 0 ∷ []) (did .0), place-leaves found lent rest made held (did .1))
 
 returns-2 : tie.Need-returns-2
 returns-2 c =
@@ -48,19 +45,21 @@ returns-2 c =
     let t = a .table .now in
     let xs = a .coefficients .now in
     let held = a .out .now in
-    let told = c .before .refusal .given in
-    let says = c .before .before .before .survey .ensures in
-    let rest = quantizeRest t (a .place) xs (length held) in
-    (table-says t (a .place) (told .1) says rest (0 ∷ []), table-leaves t (a .place) (told .1) says rest (recordFor t (a .place) xs) held)
+    let checks = placeChecks t (a .place) in
+    let says = c .before .before .before .survey-place .ensures in
+    let told = c .before .refusal .given .1 in
+    let rest = quantizeRest (rowFor t (a .place)) xs (length held) in
+    (survey-says checks t (a .place) says told rest (0 ∷ []), survey-leaves checks t (a .place) says told rest (recordFor t (a .place) xs) held)
 
 pub quantize-spec : {M : Type 1} → statement M
 quantize-spec =
     tie.close
     (tie.spec
-    survey-requires
-    enum-known-places
-    quantize-in-requires
-    enum-known-refusal
-    same-length
+    (λ c κs. search needs)
+    (λ c. search needs)
+    row-at-requires
+    quantize-at-requires
+    (λ c. search needs)
+    (λ c. search needs)
     returns
     returns-2)

@@ -1,82 +1,44 @@
--- `quantizer::inner::record::code` gives the chosen radius number and the index of the point at its radius. Assumes nothing.
-use Prim.Native.Nat.{ℕ}
-use mathlib.Core.Path.{sym, ap, _∙_}
-use Rattle.enumeration.specs.Product.{productIndex}
-use Rattle.vectors.specs.Points.{pointOf}
-use Rattle.coding.proofs.Coding.{number-is, point-is, codable, zero-coded}
+-- `coding::inner::code` gives the chosen radius number and the index of the point at its radius. Assumes nothing.
+use mathlib.Core.Path.{_∙_}
 use borrow.Author.Needs.{needs}
+use Rattle.coding.proofs.Coding.{number-is, codeword-is, zero-coded, codable}
 use Rattle.coding.proofs.inner.code.Statement.{statement}
 use Rattle.coding.proofs.inner.code.Tie as tie
 
-weigh-requires : tie.Need-weigh-requires
-weigh-requires c κs = search needs
-
-cast-choose : tie.Need-cast-choose
-cast-choose c = search needs
-
-choose-requires : tie.Need-choose-requires
-choose-requires c κs = search needs
-
-radius-requires : tie.Need-radius-requires
-radius-requires c κs = search needs
-
-same-length : tie.Need-same-length
-same-length c = search needs
-
 returns : tie.Need-returns
 returns c =
-    let a = c .before .before .before .before .before .before .before .before .before .before .before .before in
-    let t = a .args .table .now in
-    let r = a .args .row in
-    let xs = a .args .coefficients .now in (
-      number-is t r xs (c .before .before .before .choose .ensures .0) (c .before .before .radius .ensures .0) (c .before .before .before .before .before .before .weigh .ensures .0),
-      sym (ap productIndex (sym (point-is t r xs (c .before .before .before .choose .ensures .0) (c .before .before .radius .ensures .0) (c .before .before .before .before .before .before .weigh .ensures .0)) ∙ ap (λ (radius : ℕ). pointOf radius xs) (c .if1 .taken)) ∙ zero-coded xs),
-    )
-
-length-requires : tie.Need-length-requires
-length-requires c κs = search needs
+    let xs = c .before .before .before .before .before .before .before .before .before .before .before .before .args .coefficients .now in
+    let is-total = c .before .before .before .before .before .before .measure .ensures .0 in
+    let chosen = c .before .before .before .choose .ensures .0 in
+    let of-row = c .before .before .of-row .ensures in
+    (number-is xs is-total chosen of-row, zero-coded xs is-total chosen of-row (c .if1 .taken))
 
 codeword-requires : tie.Need-codeword-requires
 codeword-requires c κs =
-    let a = c .before .before .before .before .before .before .before .before .before .before .before .before .before .before .before .before in
-    let t = a .args .table .now in
-    let r = a .args .row in
-    let xs = a .args .coefficients .now in (
-      codable t r xs (c .before .before .before .before .before .before .before .choose .ensures .0) (c .before .before .before .before .before .before .radius .ensures .0) (c .before .before .before .before .before .before .before .before .before .before .weigh .ensures .0) (a .pre .1) (a .pre .3) (a .pre .2) (c .before .before .before .length .ensures) (c .before .before .before .before .if1 .left) (c .before .before .before .before .before .before .before .before .before .before .weigh .ensures .1),
-      a .pre .5,
-      a .pre .6,
-    )
-
-same-length-2 : tie.Need-same-length-2
-same-length-2 c = search needs
-
-same-length-3 : tie.Need-same-length-3
-same-length-3 c = search needs
-
-same-length-4 : tie.Need-same-length-4
-same-length-4 c = search needs
+    let a = c .before .before .before .before .before .before .before .before .before .before .before .before .before .before .before in
+    let measured = c .before .before .before .before .before .before .before .before .before .measure .ensures in
+    (codable (a .args .coefficients .now) (measured .0) (c .before .before .before .before .before .before .choose .ensures .0) (c .before .before .before .before .before .of-row .ensures) (a .pre .0 .row-good) (a .pre .2) (a .pre .1) (c .before .before .before .if1 .left) (measured .1), a .pre .4, a .pre .5)
 
 returns-2 : tie.Need-returns-2
 returns-2 c =
-    let a = c .before .before .before .before .before .before .before .before .before .before .before .before .before .before .before .before .before .before .before .before .before .before in
-    let t = a .args .table .now in
-    let r = a .args .row in
-    let xs = a .args .coefficients .now in
-    (number-is t r xs (c .before .before .before .before .before .before .before .before .before .before .before .before .before .choose .ensures .0) (c .before .before .before .before .before .before .before .before .before .before .before .before .radius .ensures .0) (c .before .before .before .before .before .before .before .before .before .before .before .before .before .before .before .before .weigh .ensures .0), c .before .before .before .before .before .codeword .ensures ∙ ap productIndex (point-is t r xs (c .before .before .before .before .before .before .before .before .before .before .before .before .before .choose .ensures .0) (c .before .before .before .before .before .before .before .before .before .before .before .before .radius .ensures .0) (c .before .before .before .before .before .before .before .before .before .before .before .before .before .before .before .before .weigh .ensures .0)))
+    let xs = c .before .before .before .before .before .before .before .before .before .before .before .before .before .before .before .before .before .before .before .before .before .args .coefficients .now in
+    let is-total = c .before .before .before .before .before .before .before .before .before .before .before .before .before .before .before .measure .ensures .0 in
+    let chosen = c .before .before .before .before .before .before .before .before .before .before .before .before .choose .ensures .0 in
+    let of-row = c .before .before .before .before .before .before .before .before .before .before .before .of-row .ensures in
+    (number-is xs is-total chosen of-row, c .before .before .before .before .before .codeword .ensures ∙ codeword-is xs is-total chosen of-row)
 
 pub code-spec : {M : Type 1} → statement M
 code-spec =
     tie.close
     (tie.spec
-    weigh-requires
-    cast-choose
-    choose-requires
-    radius-requires
-    same-length
+    (λ c κs. search needs)
+    (λ c. search needs)
+    (λ c κs. search needs)
+    (λ c κs. search needs)
+    (λ c. search needs)
     returns
-    length-requires
     codeword-requires
-    same-length-2
-    same-length-3
-    same-length-4
+    (λ c. search needs)
+    (λ c. search needs)
+    (λ c. search needs)
     returns-2)

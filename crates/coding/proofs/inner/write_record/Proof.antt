@@ -1,70 +1,52 @@
--- `quantizer::inner::record::write_record` lends as much of its room as the vector is long, and writes what `code` gives. Assumes nothing.
-use Prim.Native.Nat.{_≤_}
+-- `coding::inner::write_record` lends as much of its room as the vector is long, and writes what `code` gives. Assumes nothing.
+use Prim.Native.Nat.{ℕ, _≤_}
+use mathlib.Core.List.{List}
 use mathlib.Core.Path.{sym, ap₂, _∙_}
 use native.Mathlib.Omega.{arith}
-use lib.ListN.{length}
-use Rattle.records.specs.Record.{recordOf}
-use lib.Seq.{length-take-le}
 use borrow.Author.Needs.{needs}
+use lib.Ieee.{Float}
+use lib.ListN.{length}
+use lib.Seq.{length-take-le}
+use Rattle.records.specs.Record.{recordOf}
+use Rattle.coding.specs.Bounds.{Accepted}
 use Rattle.coding.proofs.inner.write_record.Statement.{statement}
 use Rattle.coding.proofs.inner.write_record.Tie as tie
 
-array-borrow-prefix-parts : tie.Need-array-borrow-prefix-parts
-array-borrow-prefix-parts c = search needs
+up-to-16 : {row held : List ℕ} {xs : List Float} → Accepted row xs held → length xs ≤ 16
+up-to-16 a = omega (arith, a .of-length, a .is-row .row-good .length-to)
 
 slice-aggregate-code : tie.Need-slice-aggregate-code
-slice-aggregate-code c =
-    let a = c .before .before .before .before in
-    let l = length (a .args .coefficients .now) in
-    sym (length-take-le l _ (omega (arith, a .pre .of-length, a .pre .row-good .length-to)))
-
-array-borrow-prefix-rests : tie.Need-array-borrow-prefix-rests
-array-borrow-prefix-rests c = search needs
+slice-aggregate-code c = sym (length-take-le _ _ (up-to-16 (c .before .before .before .before .pre)))
 
 slice-aggregate-code-2 : tie.Need-slice-aggregate-code-2
-slice-aggregate-code-2 c =
-    let a = c .before .before .before .before .before in
-    let l = length (a .args .coefficients .now) in
-    sym (length-take-le l _ (omega (arith, a .pre .of-length, a .pre .row-good .length-to)))
-
-array-borrow-prefix-point : tie.Need-array-borrow-prefix-point
-array-borrow-prefix-point c = search needs
+slice-aggregate-code-2 c = sym (length-take-le _ _ (up-to-16 (c .before .before .before .before .before .pre)))
 
 slice-aggregate-code-3 : tie.Need-slice-aggregate-code-3
-slice-aggregate-code-3 c =
-    let a = c .before .before .before .before .before .before in
-    let l = length (a .args .coefficients .now) in
-    sym (length-take-le l _ (omega (arith, a .pre .of-length, a .pre .row-good .length-to)))
+slice-aggregate-code-3 c = sym (length-take-le _ _ (up-to-16 (c .before .before .before .before .before .before .pre)))
 
 code-requires : tie.Need-code-requires
 code-requires c κs =
-    let a = c .before .before .before .before .before .before in
-    let l = length (a .args .coefficients .now) in
-    let long : l ≤ 16 = omega (arith, a .pre .of-length, a .pre .row-good .length-to) in
-    (a .pre .in-table, a .pre .row-good, a .pre .of-length, a .pre .all-usable, length-take-le l _ long, length-take-le l _ long, length-take-le l _ long)
-
-write-requires : tie.Need-write-requires
-write-requires c κs = search needs
-
-same-length : tie.Need-same-length
-same-length c = search needs
+    let a = c .before .before .before .before .before .before .pre in
+    let long = up-to-16 a in
+    (a .is-row, a .of-length, a .all-usable, length-take-le _ _ long, length-take-le _ _ long, length-take-le _ _ long)
 
 returns : tie.Need-returns
 returns c =
     let a = c .before .before .before .before .before .before .before .before .before .before .before .before .before .before .args in
-    c .before .before .write .ensures ∙ ap₂ (recordOf (a .place) (a .row)) (c .before .before .before .before .before .before .before .code .ensures .0) (c .before .before .before .before .before .before .before .code .ensures .1)
+    let coded = c .before .before .before .before .before .before .before .code .ensures in
+    c .before .before .write .ensures ∙ ap₂ (recordOf (a .place) (a .number)) (coded .0) (coded .1)
 
 pub write-record-spec : {M : Type 1} → statement M
 write-record-spec =
     tie.close
     (tie.spec
-    array-borrow-prefix-parts
+    (λ c. search needs)
     slice-aggregate-code
-    array-borrow-prefix-rests
+    (λ c. search needs)
     slice-aggregate-code-2
-    array-borrow-prefix-point
+    (λ c. search needs)
     slice-aggregate-code-3
     code-requires
-    write-requires
-    same-length
+    (λ c κs. search needs)
+    (λ c. search needs)
     returns)

@@ -1,6 +1,5 @@
 -- `pairing::inner::walking::walk_from` begins the way at a place, in its row and no other. Assumes nothing.
 use native.Mathlib.Omega.{arith}
-use borrow.Author.Needs.{needs}
 use Rattle.tables.proofs.Good.{right-size}
 use Rattle.tables.proofs.Walking.{row-in-table, at-place}
 use Rattle.pairing.proofs.inner.walking.walk_from.Statement.{statement}

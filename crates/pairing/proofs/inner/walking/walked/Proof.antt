@@ -1,7 +1,5 @@
 -- `pairing::inner::walking::walked` finds the row of a place from that of the place before it. Assumes nothing.
-use mathlib.Core.List.{List}
 use mathlib.Core.Path.{_∙_, ap}
-use Prim.Native.Nat.{ℕ}
 use native.Mathlib.Omega.{arith}
 use borrow.Author.Needs.{needs}
 use Rattle.tables.proofs.Walking.{end-to, next-below, next-row}

@@ -1,0 +1,21 @@
+-- Which coefficients are refused (document 01, "Quantizing into a record" and "Refusal numbers"). xs are the coefficients, any of them. Assumes
+-- nothing.
+use Prim.Native.Nat.{ℕ, _<_}
+use mathlib.Core.Path.{_≡_}
+use mathlib.Core.List.{List, [], _∷_}
+use mathlib.Core.Bool.{false}
+use lib.Ieee.{Float, nan}
+use lib.ListN.{length, getD}
+use Rattle.answers.specs.Checks.{Check, eachFrom}
+use Rattle.floats.specs.Units.{unusableCoefficient}
+
+-- 11: unusable coefficient, with the first coordinate at fault
+abbrev pub usableCheck : List Float → ℕ → Check
+usableCheck xs i = record { number = 11; values = i ∷ []; fails = unusableCoefficient (getD xs i nan) }
+
+abbrev pub usableChecks : List Float → List Check
+usableChecks xs = eachFrom (usableCheck xs) 0 (length xs)
+
+-- every coefficient is usable
+abbrev pub AllUsable : List Float → Type 0
+AllUsable xs = (i : ℕ) → i < length xs → unusableCoefficient (getD xs i nan) ≡ false

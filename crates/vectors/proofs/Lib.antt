@@ -1,3 +1,0 @@
-pub mod Radii
-pub mod Points
-pub mod OneToOne
