@@ -19,7 +19,7 @@ use Rattle.shares.proofs.Mapped.{read-map}
 use Rattle.shares.proofs.Sharing.{shared-length, shared-up-to}
 use Rattle.numbering.specs.Numbered.{IsOfRow, indexIn, Usable}
 use Rattle.numbering.specs.declared.inner.Numbering.{Numbering}
-use Rattle.numbering.proofs.OfRow.{of-row-usable}
+use Rattle.numbering.proofs.OfRow.{usable-of}
 use Rattle.coefficients.specs.Coefficients.{AllUsable}
 use Rattle.coefficients.specs.Points.{magnitudesOf, totalOf, signedBy, pointOf}
 use Rattle.coefficients.specs.Radius.{chosenRadiusNumber}
@@ -79,7 +79,7 @@ same-index xs same-enumeration same-radius = rw (same-enumeration, same-radius) 
 
 -- the radius number that is chosen in a row, and its numbering
 module _ (xs : List Float) {row : List ℕ} {total number : ℕ} {m : Numbering} (is-total : total ≡ totalOf xs) (is-number : number ≡ chosenRadiusNumber row total)
-    (of-row : IsOfRow m row number) where
+    (of-row : IsOfRow m row (radiusAt row number)) where
   pub number-is : number ≡ radiusNumberFor row xs
   number-is = is-number ∙ ap (chosenRadiusNumber row) is-total
 
@@ -101,7 +101,7 @@ module _ (xs : List Float) {row : List ℕ} {total number : ℕ} {m : Numbering}
   codable good usable long some is-magnitudes =
       let above : 0 < m .radius .0 = omega arith in
       record {
-        shell-usable = of-row-usable of-row good (rw is-number (number-below row good total));
+        shell-usable = usable-of of-row (good .radius-usable number (rw is-number (number-below row good total)));
         above-0 = above;
         some = some-total row good total (rw (of-row .is-radius, is-number) at above);
         of-length = long ∙ sym (of-row .is-length);

@@ -13,7 +13,7 @@ use Rattle.answers.proofs.InOrder.{Numbered, says-passes, passes-says, passed-s
 use Rattle.tables.specs.Row.{rowLength, IsRow}
 use Rattle.tables.specs.Table.{rowsOf, rowAt, placesIn, Good, placeChecks, rowOf, rowFor, surveySays}
 use Rattle.tables.proofs.Good.{good-place}
-use Rattle.tables.proofs.PlaceChecks.{place-numbered, place-passes}
+use Rattle.tables.proofs.PlaceChecks.{place-numbered}
 use Rattle.pairing.specs.Meanings.{surveyMeaning}
 use Rattle.pairing.specs.declared.inner.survey.Surveyed.{Surveyed}
 use Rattle.pairing.specs.declared.inner.survey.Surveyed.the-variants as surveyed
@@ -57,15 +57,12 @@ module _ {checks : List Check} {t : List ℕ} {p places row : ℕ} (found : Surv
       told ∙ passed-says checks (c ∷ []) (0 ∷ placesIn t ∷ rowOf t p ∷ []) (found .passes)
 
 -- a table and a place that were found good
-pub place-found : (t : List ℕ) (p : ℕ) {survey : Surveyed} {places row : ℕ} → surveyMeaning survey ≡ surveySays (placeChecks t p) t p
+pub surveyed-place : (t : List ℕ) (p : ℕ) {survey : Surveyed} {places row : ℕ} → surveyMeaning survey ≡ surveySays (placeChecks t p) t p
     → survey ≡ surveyed.Good places row → Surveys (placeChecks t p) t p places row
-place-found t p says told = survey-good (placeChecks t p) t p says (place-numbered t p) told
+surveyed-place t p says told = survey-good (placeChecks t p) t p says (place-numbered t p) told
 
--- the row of such a place is one of the table
-module _ {t : List ℕ} {p places n : ℕ} (found : Surveys (placeChecks t p) t p places n) where
-  placed : Good t × (p < placesIn t)
-  placed = place-passes t p (found .passes)
-
+-- the row of a surveyed place is one of the table
+module _ {checks : List Check} {t : List ℕ} {p places n : ℕ} (found : Surveys checks t p places n) (placed : Good t × (p < placesIn t)) where
   pub number-in : n < rowsOf t
   number-in = rw (found .is-row) (good-place t p (placed .0) (placed .1) .0)
 
@@ -80,15 +77,15 @@ module _ {t : List ℕ} {p places n : ℕ} (found : Surveys (placeChecks t p) t 
     -- what is said and left for the row, by its number and bytes, is what is said and left for the place
     module _ (rest : ℕ → List ℕ → List Check) where
       pub place-says : (answer : ℕ → List ℕ → List ℕ) {said : List ℕ} → said ≡ firstOf (rest n row) (answer n row)
-          → said ≡ firstOf (placeChecks t p ++ rest (rowOf t p) (rowFor t p)) (answer (rowOf t p) (rowFor t p))
+          → said ≡ firstOf (checks ++ rest (rowOf t p) (rowFor t p)) (answer (rowOf t p) (rowFor t p))
       place-says answer says =
           says
           ∙ ap₂ (λ (m : ℕ) (bytes : List ℕ). firstOf (rest m bytes) (answer m bytes)) (found .is-row) is-its-row
-          ∙ passed-says (placeChecks t p) (rest (rowOf t p) (rowFor t p)) (answer (rowOf t p) (rowFor t p)) (found .passes)
+          ∙ passed-says (checks) (rest (rowOf t p) (rowFor t p)) (answer (rowOf t p) (rowFor t p)) (found .passes)
 
       pub place-leaves : {A : Type 0} (made : ℕ → List ℕ → A) (held : A) {left : A} → left ≡ leaves (rest n row) (made n row) held
-          → left ≡ leaves (placeChecks t p ++ rest (rowOf t p) (rowFor t p)) (made (rowOf t p) (rowFor t p)) held
+          → left ≡ leaves (checks ++ rest (rowOf t p) (rowFor t p)) (made (rowOf t p) (rowFor t p)) held
       place-leaves made held keeps =
           keeps
           ∙ ap₂ (λ (m : ℕ) (bytes : List ℕ). leaves (rest m bytes) (made m bytes) held) (found .is-row) is-its-row
-          ∙ passed-leaves (placeChecks t p) (rest (rowOf t p) (rowFor t p)) (made (rowOf t p) (rowFor t p)) held (found .passes)
+          ∙ passed-leaves (checks) (rest (rowOf t p) (rowFor t p)) (made (rowOf t p) (rowFor t p)) held (found .passes)

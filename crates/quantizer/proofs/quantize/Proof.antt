@@ -5,9 +5,10 @@ use mathlib.Core.List.{List, [], _∷_}
 use borrow.Author.Needs.{needs}
 use lib.ListN.{length}
 use Rattle.answers.specs.Checks.{Check}
+use Rattle.tables.proofs.PlaceChecks.{place-passes}
 use Rattle.tables.specs.Table.{placeChecks, rowFor}
 use Rattle.records.specs.Record.{recordOf}
-use Rattle.pairing.proofs.Surveys.{survey-says, survey-leaves, place-found, number-in, row-surveyed, place-says, place-leaves}
+use Rattle.pairing.proofs.Surveys.{survey-says, survey-leaves, surveyed-place, number-in, row-surveyed, place-says, place-leaves}
 use Rattle.coding.specs.Coded.{radiusNumberFor, codewordFor}
 use Rattle.quantizer.specs.Calls.{quantizeRest, recordFor}
 use Rattle.quantizer.proofs.quantize.Statement.{statement}
@@ -17,14 +18,15 @@ row-at-requires : tie.Need-row-at-requires
 row-at-requires c κs =
     let a = c .before .before .before .before .before .before .before .args in
     let t = a .table .now in
-    number-in (place-found t (a .place) (c .before .before .before .survey-place .ensures) (c .before .row .given .1))
+    let found = surveyed-place t (a .place) (c .before .before .before .survey-place .ensures) (c .before .row .given .1) in
+    number-in found (place-passes t (a .place) (found .passes))
 
 quantize-at-requires : tie.Need-quantize-at-requires
 quantize-at-requires c κs =
     let a = c .before .before .before .before .before .before .before .before .before .args in
     let t = a .table .now in
-    let found = place-found t (a .place) (c .before .before .before .before .before .survey-place .ensures) (c .before .before .before .row .given .1) in
-    row-surveyed found (c .before .row-at .ensures)
+    let found = surveyed-place t (a .place) (c .before .before .before .before .before .survey-place .ensures) (c .before .before .before .row .given .1) in
+    row-surveyed found (place-passes t (a .place) (found .passes)) (c .before .row-at .ensures)
 
 returns : tie.Need-returns
 returns c =
@@ -32,12 +34,13 @@ returns c =
     let t = a .table .now in
     let xs = a .coefficients .now in
     let held = a .out .now in
-    let found = place-found t (a .place) (c .before .before .before .before .before .before .before .before .survey-place .ensures) (c .before .before .before .before .before .before .row .given .1) in
+    let found = surveyed-place t (a .place) (c .before .before .before .before .before .before .before .before .survey-place .ensures) (c .before .before .before .before .before .before .row .given .1) in
     let rest : ℕ → List ℕ → List Check = λ n row. quantizeRest row xs (length held) in
     let made : ℕ → List ℕ → List ℕ = λ n row. recordOf (a .place) n (radiusNumberFor row xs) (codewordFor row xs) in
+    let placed = place-passes t (a .place) (found .passes) in
     let lent = c .before .before .before .before .row-at .ensures in
     let did = c .before .before .quantize-at .ensures in
-    (place-says found lent rest (λ n row. 0 ∷ []) (did .0), place-leaves found lent rest made held (did .1))
+    (place-says found placed lent rest (λ n row. 0 ∷ []) (did .0), place-leaves found placed lent rest made held (did .1))
 
 returns-2 : tie.Need-returns-2
 returns-2 c =
