@@ -3,11 +3,11 @@
 // taken and what is written is decided by the calls; a missing file is empty, and so is one that cannot be opened, which standard error tells.
 mod inner;
 
-use cells::inner::rule::start;
 use inner::input::read_table;
 use inner::input::take_records;
 use inner::output::print_page;
 use inner::output::print_refused;
+use layout::inner::page_length;
 use pairing::Checked;
 use pairing::check;
 ghost use Prim.Native.Nat.{_≤_};
@@ -17,7 +17,7 @@ fn list(table: &[u8], places: usize)
     requires { ⌜ places ≤ 4096 ⌝ }
 {
     let mut room = [0u8; 36864];
-    let size = start(places);
+    let size = page_length(places);
     let page = &mut room[..size];
     let refused = take_records(table, page);
     print_page(table, page, places, refused);

@@ -10,29 +10,27 @@ use lib.Dec.{lit<}
 use lib.ListN.{length, take, drop, length-drop, drop-of-length-le}
 use lib.Seq.{take-all, drop-drop}
 use Rattle.answers.proofs.InOrder.{Numbered, says-passes, passes-fails, fails-then, refusal-fails, passed-leaves}
-use Rattle.answers.specs.Checks.{anyOf, failsOf}
+use Rattle.answers.specs.Checks.{anyOf, firstOf, leaves, failsOf, Passes}
 use Rattle.answers.specs.Refusals.{meaning}
 use Rattle.answers.specs.declared.Refusal.{Refusal}
-use Rattle.tables.specs.Table.{tableChecks}
 use Rattle.rules.proofs.Runs.{parts-next, parts-none, parts-count, shut-after}
-use Rattle.rules.specs.Taking.{takeRest, takeChecks, takeInto, takeSaysIn, takeLeavesIn, takeLeaves, refusals, Received, arrive, after, partsOf, collected}
-use Rattle.places.specs.Bounds.{Sized}
+use Rattle.rules.specs.Taking.{pageChecks, takeRest, takeChecks, takeInto, takeLeaves, refusals, Received, arrive, after, partsOf, collected}
 
-module _ {t : List ℕ} {places : ℕ} (sized : Sized t places) (pg x : List ℕ) where
-  pub leaves-all : {left : List ℕ} → left ≡ takeLeavesIn t pg x → left ≡ takeLeaves t pg x
-  leaves-all did = did ∙ passed-leaves (tableChecks t) (takeRest t pg x) (takeInto pg x) pg (sized .good)
+module _ (t pg : List ℕ) (ready : Passes (pageChecks t pg)) (x : List ℕ) where
+  pub leaves-all : {left : List ℕ} → left ≡ leaves (takeRest t pg x) (takeInto pg x) pg → left ≡ takeLeaves t pg x
+  leaves-all did = did ∙ passed-leaves (pageChecks t pg) (takeRest t pg x) (takeInto pg x) pg ready
 
   numbered : Numbered (takeRest t pg x)
   numbered = (lit< tt, (lit< tt, (lit< tt, tt)))
 
   fails-by : {b : Bool} → anyOf (failsOf (takeRest t pg x)) ≡ b → anyOf (failsOf (takeChecks t pg x)) ≡ b
-  fails-by e = fails-then (tableChecks t) (takeRest t pg x) ∙ rw (passes-fails (tableChecks t) (sized .good)) e
+  fails-by e = fails-then (pageChecks t pg) (takeRest t pg x) ∙ rw (passes-fails (pageChecks t pg) ready) e
 
-  pub counts-0 : 0 ∷ [] ≡ takeSaysIn t pg x → 0 ≡ refusals t pg x
+  pub counts-0 : 0 ∷ [] ≡ firstOf (takeRest t pg x) (0 ∷ []) → 0 ≡ refusals t pg x
   unfolding refusals
   counts-0 said = rw (fails-by (passes-fails (takeRest t pg x) (says-passes [] [] (takeRest t pg x) numbered (sym said)))) refl
 
-  pub counts-1 : (r : Refusal) → meaning r ≡ takeSaysIn t pg x → 1 ≡ refusals t pg x
+  pub counts-1 : (r : Refusal) → meaning r ≡ firstOf (takeRest t pg x) (0 ∷ []) → 1 ≡ refusals t pg x
   unfolding refusals
   counts-1 r said = rw (fails-by (refusal-fails [] (takeRest t pg x) r said)) refl
 
@@ -79,9 +77,9 @@ pub all-collected : (t pg bytes : List ℕ) (at refused : ℕ) {left : Received}
 unfolding after
 all-collected t pg bytes at refused h e = rw (parts-none (drop at bytes) (rw (length-drop at bytes) (omega arith))) at e
 
--- a bad table: every part is refused, and the page is as it was
-pub shut-collected : (t pg bytes : List ℕ) → anyOf (failsOf (tableChecks t)) ≡ true
+-- a bad table or a page of another length: every part is refused, and the page is as it was
+pub shut-collected : (t pg bytes : List ℕ) → anyOf (failsOf (pageChecks t pg)) ≡ true
     → collected t pg bytes ≡ record { page = pg; refused = (length bytes + 7) / 8 }
-shut-collected t pg bytes bad =
-    shut-after t (record { page = pg; refused = 0 }) (partsOf bytes) (rw bad refl)
+shut-collected t pg bytes shut =
+    shut-after t (record { page = pg; refused = 0 }) (partsOf bytes) shut
     ∙ ap (λ (n : ℕ). record { page = pg; refused = n }) (zero-add (length (partsOf bytes)) ∙ parts-count bytes)

@@ -1,6 +1,5 @@
-pub mod TakeSays
+pub mod Surveyed
+pub mod Taking
 pub mod Collecting
-pub mod ReadSays
-pub mod TallySays
 pub mod Scaled
 pub mod OneToOne

@@ -3,16 +3,17 @@
 pub mod inner;
 
 use answers::Refusal;
-use inner::reading::coefficient_in;
-use inner::reading::read_in;
-use inner::taking::collect_in;
+use inner::reading::coefficient_at;
+use inner::reading::read_at;
+use inner::taking::collect_records;
 use inner::taking::parts;
-use inner::taking::take_in;
-use inner::tallying::tally_in;
+use inner::taking::take_record;
+use inner::tallying::tally_page;
 use pairing::inner::survey::Surveyed;
-use pairing::inner::survey::survey;
+use places::inner::opening::survey_look;
+use places::inner::opening::survey_page;
+use rows::inner::row::row_at;
 ghost use mathlib.Core.Path.{_≡_};
-ghost use Rattle.enumeration.proofs.Product.{product};
 ghost use Rattle.rules.specs.Taking.{takeSays, takeLeaves, collected};
 ghost use Rattle.rules.specs.Reading.{readSays, readLeaves, coefficientSays, coefficientCarries};
 ghost use Rattle.rules.specs.Tallying.{tallySays};
@@ -69,51 +70,58 @@ pub enum Tallied {
 pub fn take(table: &[u8], page: &mut [u8], bytes: &[u8]) -> Arrival
     ensures { λ r. ⌜ (takeMeaning r ≡ takeSays (now (table .entry)) (now (page .entry)) (now (bytes .entry))) × (now (page .exit) ≡ takeLeaves (now (table .entry)) (now (page .entry)) (now (bytes .entry))) ⌝ }
 {
-    match survey(table, 0) {
-        Surveyed::Good { places, row: _ } => take_in(table, places, page, bytes),
+    match survey_page(table, page) {
+        Surveyed::Good { places, row: _ } => take_record(table, places, page, bytes),
         Surveyed::Bad(refusal) => Arrival::Refused(refusal),
     }
 }
 
 // The call collect: a run of bytes, eight by eight and a shorter last part too, each taken in turn; how many takes were refused. With a bad table
-// all of them are.
+// or a page of another length all of them are.
 pub fn collect(table: &[u8], page: &mut [u8], bytes: &[u8]) -> usize
     ensures { λ r. ⌜ (r ≡ collected (now (table .entry)) (now (page .entry)) (now (bytes .entry)) .refused) × (now (page .exit) ≡ collected (now (table .entry)) (now (page .entry)) (now (bytes .entry)) .page) ⌝ }
 {
-    match survey(table, 0) {
-        Surveyed::Good { places, row: _ } => collect_in(table, places, page, bytes),
+    match survey_page(table, page) {
+        Surveyed::Good { places, row: _ } => collect_records(table, places, page, bytes),
         Surveyed::Bad(_) => parts(bytes.len()),
     }
 }
 
 // The call read: the point of a place, or zeros, into the lent buffer once every check has passed.
 pub fn read(table: &[u8], page: &[u8], place: usize, out: &mut [i32]) -> Reading
-    ensures { λ r. ⌜ (readMeaning r ≡ readSays product (now (table .entry)) (now (page .entry)) place (now (out .entry))) × (now (out .exit) ≡ readLeaves product (now (table .entry)) (now (page .entry)) place (now (out .entry))) ⌝ }
+    ensures { λ r. ⌜ (readMeaning r ≡ readSays (now (table .entry)) (now (page .entry)) place (now (out .entry))) × (now (out .exit) ≡ readLeaves (now (table .entry)) (now (page .entry)) place (now (out .entry))) ⌝ }
 {
-    match survey(table, place) {
-        Surveyed::Good { places, row } => read_in(table, places, row, page, place, out),
+    match survey_look(table, page, place) {
+        Surveyed::Good { places, row } => {
+            read_at(row_at(table, row), row, page, places, place, out)
+        }
         Surveyed::Bad(refusal) => Reading::Refused(refusal),
     }
 }
 
 // The call coefficient: one coordinate of a place, as its value.
 pub fn coefficient(table: &[u8], page: &[u8], place: usize, coordinate: usize) -> Valued
-    ensures { λ r. ⌜ (coefficientMeaning r ≡ coefficientSays product (now (table .entry)) (now (page .entry)) place coordinate) × (coefficientValues r ≡ coefficientCarries product (now (table .entry)) (now (page .entry)) place coordinate) ⌝ }
+    ensures { λ r. ⌜ (coefficientMeaning r ≡ coefficientSays (now (table .entry)) (now (page .entry)) place coordinate) × (coefficientValues r ≡ coefficientCarries (now (table .entry)) (now (page .entry)) place coordinate) ⌝ }
 {
-    match survey(table, place) {
-        Surveyed::Good { places, row } => {
-            coefficient_in(table, places, row, page, place, coordinate)
-        }
+    match survey_look(table, page, place) {
+        Surveyed::Good { places, row } => coefficient_at(
+            row_at(table, row),
+            row,
+            page,
+            places,
+            place,
+            coordinate,
+        ),
         Surveyed::Bad(refusal) => Valued::Refused(refusal),
     }
 }
 
 // The call tally: the five counts.
 pub fn tally(table: &[u8], page: &[u8]) -> Tallied
-    ensures { λ r. ⌜ tallyMeaning r ≡ tallySays product (now (table .entry)) (now (page .entry)) ⌝ }
+    ensures { λ r. ⌜ tallyMeaning r ≡ tallySays (now (table .entry)) (now (page .entry)) ⌝ }
 {
-    match survey(table, 0) {
-        Surveyed::Good { places, row: _ } => tally_in(table, places, page),
+    match survey_page(table, page) {
+        Surveyed::Good { places, row } => tally_page(table, places, row, page),
         Surveyed::Bad(refusal) => Tallied::Refused(refusal),
     }
 }

@@ -1,16 +1,14 @@
 -- What the calls of the report say, and what they leave in the lent buffer. A refusal is given as document 01 gives it ("Refusal numbers"), the checks
--- in the order in which reading a place has them. e is any enumeration; t the table's bytes, pg the page's, p the place from which lines are asked
+-- in the order in which reading a place has them. t is the table's bytes, pg the page's, p the place from which lines are asked
 -- for, held what the lent buffer held; all of them any. Assumes nothing.
 use Prim.Native.Nat.{ℕ, _+_, _-_, _/_, min}
 use mathlib.Core.List.{List, [], _∷_, _++_}
 use lib.Dec.{ltb}
 use lib.ListN.{length, drop}
-use Rattle.answers.specs.Checks.{Check, anyOf, firstOf, leaves, eachFrom}
+use Rattle.answers.specs.Checks.{Check, firstOf, leaves, eachFrom}
 use Rattle.answers.specs.Refusals.{meaning}
-use Rattle.enumeration.specs.Enumeration.{Enumeration}
-use Rattle.tables.specs.Table.{placesIn, tableChecks, noSuchPlace}
-use Rattle.rules.specs.Cell.{wrongPage}
-use Rattle.rules.specs.Tallying.{cellCheck}
+use Rattle.tables.specs.Table.{placesIn}
+use Rattle.rules.specs.Taking.{cellCheckAt, lookChecks}
 use Rattle.report.specs.Listing.{linesFrom}
 use Rattle.report.specs.declared.Listed.{Listed}
 use Rattle.report.specs.declared.Listed.the-variants as listed
@@ -50,38 +48,28 @@ noRoom b = record { number = 4; values = []; fails = ltb b lineSpace }
 
 -- ---- the lines of places
 -- as many as b bytes have room for, or as there are
-abbrev pub linesIn : List ℕ → ℕ → ℕ → ℕ
-linesIn t p b = min (placesIn t - p) (b / lineSpace)
+abbrev pub linesFit : List ℕ → ℕ → ℕ → ℕ
+linesFit t p b = min (placesIn t - p) (b / lineSpace)
 
--- 7, 8, 4, 12: 12 for the places whose lines are written, with the lowest; first those after the table's
+-- 7, 8, 4, 12: 12 for the places whose lines are written, with the lowest; first those after the page's
 abbrev pub linesRest : List ℕ → List ℕ → ℕ → ℕ → List Check
-linesRest t pg p b =
-    record { number = 8; values = []; fails = noSuchPlace t p }
-    ∷ record { number = 4; values = []; fails = anyOf (wrongPage (placesIn t) (length pg) ∷ ltb b lineSpace ∷ []) }
-    ∷ eachFrom (cellCheck pg) p (linesIn t p b)
+linesRest t pg p b = noRoom b ∷ eachFrom (cellCheckAt pg) p (linesFit t p b)
 
 abbrev pub linesChecks : List ℕ → List ℕ → ℕ → ℕ → List Check
-linesChecks t pg p b = tableChecks t ++ linesRest t pg p b
+linesChecks t pg p b = lookChecks t pg p ++ linesRest t pg p b
 
-abbrev pub linesText : Enumeration → List ℕ → List ℕ → ℕ → ℕ → List ℕ
-linesText e t pg p b = linesFrom e t pg p (linesIn t p b)
+abbrev pub linesText : List ℕ → List ℕ → ℕ → ℕ → List ℕ
+linesText t pg p b = linesFrom t pg p (linesFit t p b)
 
-abbrev pub linesAnswer : Enumeration → List ℕ → List ℕ → ℕ → ℕ → List ℕ
-linesAnswer e t pg p b = 0 ∷ (p + linesIn t p b) ∷ length (linesText e t pg p b) ∷ []
+abbrev pub linesAnswer : List ℕ → List ℕ → ℕ → ℕ → List ℕ
+linesAnswer t pg p b = 0 ∷ (p + linesFit t p b) ∷ length (linesText t pg p b) ∷ []
 
 -- what is said, and what is left
-abbrev pub linesSays : Enumeration → List ℕ → List ℕ → ℕ → List ℕ → List ℕ
-linesSays e t pg p held = firstOf (linesChecks t pg p (length held)) (linesAnswer e t pg p (length held))
+abbrev pub linesSays : List ℕ → List ℕ → ℕ → List ℕ → List ℕ
+linesSays t pg p held = firstOf (linesChecks t pg p (length held)) (linesAnswer t pg p (length held))
 
-abbrev pub linesLeaves : Enumeration → List ℕ → List ℕ → ℕ → List ℕ → List ℕ
-linesLeaves e t pg p held = leaves (linesChecks t pg p (length held)) (startingWith (linesText e t pg p (length held)) held) held
-
--- the same for a good table
-abbrev pub linesSaysIn : Enumeration → List ℕ → List ℕ → ℕ → List ℕ → List ℕ
-linesSaysIn e t pg p held = firstOf (linesRest t pg p (length held)) (linesAnswer e t pg p (length held))
-
-abbrev pub linesLeavesIn : Enumeration → List ℕ → List ℕ → ℕ → List ℕ → List ℕ
-linesLeavesIn e t pg p held = leaves (linesRest t pg p (length held)) (startingWith (linesText e t pg p (length held)) held) held
+abbrev pub linesLeaves : List ℕ → List ℕ → ℕ → List ℕ → List ℕ
+linesLeaves t pg p held = leaves (linesChecks t pg p (length held)) (startingWith (linesText t pg p (length held)) held) held
 
 -- ---- one line, whose text is known
 abbrev pub lineSays : List ℕ → List ℕ → List ℕ

@@ -4,7 +4,6 @@ use Prim.Native.Nat.{ℕ}
 use mathlib.Core.Path.{_≡_}
 use mathlib.Core.List.{List, [], _∷_, _++_}
 use lib.ListN.{take, replicate}
-use Rattle.enumeration.proofs.Product.{product}
 use Rattle.tables.specs.Example.{wholeCase}
 use Rattle.rules.specs.Example.{of, first, second, other, page, state-3}
 use Rattle.text.specs.Text.{ascii}
@@ -16,28 +15,28 @@ nines n = replicate n 9
 
 pub record Example : Type 0 where
   -- as the document prints it
-  pub whole-case : listing product wholeCase (first ++ second) ≡ ascii "0 sound 0 1 0 -1\n1 mended 0 0 -1 1\ntally 1 1 0 0 0 0\n"
+  pub whole-case : listing wholeCase (first ++ second) ≡ ascii "0 sound 0 1 0 -1\n1 mended 0 0 -1 1\ntally 1 1 0 0 0 0\n"
   -- no records at all
-  pub no-records : listing product wholeCase [] ≡ ascii "0 missing 0 0 0 0\n1 missing 0 0 0 0\ntally 0 0 2 0 0 0\n"
+  pub no-records : listing wholeCase [] ≡ ascii "0 missing 0 0 0 0\n1 missing 0 0 0 0\ntally 0 0 2 0 0 0\n"
   -- a record that differs, one that cannot be read, one of no place, and a shorter last part
-  pub damaged : listing product wholeCase (first ++ other ++ of 1 0 1 32 ++ of 2 0 1 5 ++ take 7 first)
+  pub damaged : listing wholeCase (first ++ other ++ of 1 0 1 32 ++ of 2 0 1 5 ++ take 7 first)
       ≡ ascii "0 contested 0 0 0 0\n1 unreadable 14 0 0 0\ntally 0 0 0 1 1 2\n"
   -- a bad table, and none
-  pub bad-table : listing product (wholeCase ++ (1 ∷ [])) first ≡ ascii "refused 7\n"
-  pub no-table : listing product [] first ≡ ascii "refused 7\n"
+  pub bad-table : listing (wholeCase ++ (1 ∷ [])) first ≡ ascii "refused 7\n"
+  pub no-table : listing [] first ≡ ascii "refused 7\n"
   -- the lines of a page, from a place on, as many as there is room for, 256 bytes each: where to go on, and how many bytes they are
-  pub two-lines : linesSays product wholeCase page 0 (nines 512) ≡ 0 ∷ 2 ∷ 35 ∷ []
-  pub one-line : linesSays product wholeCase page 0 (nines 511) ≡ 0 ∷ 1 ∷ 17 ∷ []
-  pub last-place : linesSays product wholeCase page 1 (nines 512) ≡ 0 ∷ 2 ∷ 18 ∷ []
-  pub line-left : linesLeaves product wholeCase page 1 (nines 256) ≡ ascii "1 mended 0 0 -1 1\n" ++ nines 238
+  pub two-lines : linesSays wholeCase page 0 (nines 512) ≡ 0 ∷ 2 ∷ 35 ∷ []
+  pub one-line : linesSays wholeCase page 0 (nines 511) ≡ 0 ∷ 1 ∷ 17 ∷ []
+  pub last-place : linesSays wholeCase page 1 (nines 512) ≡ 0 ∷ 2 ∷ 18 ∷ []
+  pub line-left : linesLeaves wholeCase page 1 (nines 256) ≡ ascii "1 mended 0 0 -1 1\n" ++ nines 238
   -- 7, 8, 4, 12 with the lowest place among those asked for; a refusal leaves the buffer
-  pub lines-7 : linesSays product [] (take 17 page) 2 [] ≡ 7 ∷ 0 ∷ []
-  pub lines-8 : linesSays product wholeCase (take 17 page) 2 [] ≡ 8 ∷ []
-  pub lines-4-page : linesSays product wholeCase (take 17 state-3) 0 (nines 256) ≡ 4 ∷ []
-  pub lines-4-room : linesSays product wholeCase state-3 0 (nines 255) ≡ 4 ∷ []
-  pub lines-12 : linesSays product wholeCase state-3 0 (nines 256) ≡ 12 ∷ 0 ∷ []
-  pub lines-past-12 : linesSays product wholeCase state-3 1 (nines 256) ≡ 0 ∷ 2 ∷ 18 ∷ []
-  pub refused-leaves : linesLeaves product wholeCase state-3 0 (nines 256) ≡ nines 256
+  pub lines-7 : linesSays [] (take 17 page) 2 [] ≡ 7 ∷ 0 ∷ []
+  pub lines-8 : linesSays wholeCase (take 17 page) 2 [] ≡ 8 ∷ []
+  pub lines-4-page : linesSays wholeCase (take 17 state-3) 0 (nines 256) ≡ 4 ∷ []
+  pub lines-4-room : linesSays wholeCase state-3 0 (nines 255) ≡ 4 ∷ []
+  pub lines-12 : linesSays wholeCase state-3 0 (nines 256) ≡ 12 ∷ 0 ∷ []
+  pub lines-past-12 : linesSays wholeCase state-3 1 (nines 256) ≡ 0 ∷ 2 ∷ 18 ∷ []
+  pub refused-leaves : linesLeaves wholeCase state-3 0 (nines 256) ≡ nines 256
   -- one line of a known text: its size, or 4 where there are less than 256 bytes
   pub last-line : lastLine (1 ∷ 1 ∷ 0 ∷ 0 ∷ 0 ∷ []) 2 ≡ ascii "tally 1 1 0 0 0 2\n"
   pub line-says : lineSays (ascii "refused 7\n") (nines 256) ≡ 0 ∷ 10 ∷ []

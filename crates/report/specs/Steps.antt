@@ -1,5 +1,5 @@
 -- The steps of the listing program, and the listing that they make. What a program reads and writes can stand in no contract, so it is said here: records
--- come in blocks, lines go out in blocks, and the calls' answers make the text that `listing` is, for any enumeration e and any bytes t of a table.
+-- come in blocks, lines go out in blocks, and the calls' answers make the text that `listing` is, for any bytes t of a table.
 -- Assumes nothing.
 use Prim.Native.Nat.{ℕ, _+_, _*_, _≤_, _<_}
 use mathlib.Core.List.{List, _∷_, _++_}
@@ -7,20 +7,19 @@ use mathlib.Core.Path.{_≡_}
 use lib.ListN.{length, take}
 use Rattle.answers.specs.Refusals.{meaning, numberOf}
 use Rattle.answers.specs.declared.Refusal.{Refusal}
-use Rattle.enumeration.specs.Enumeration.{Enumeration}
 use Rattle.tables.specs.Table.{tableRoom, placesIn, checkSays, Good}
-use Rattle.rules.specs.Cell.{emptyPage}
+use Rattle.layout.specs.Layout.{emptyPage}
 use Rattle.rules.specs.Taking.{collected, grown, partsOf}
 use Rattle.rules.specs.Tallying.{tallyOf, tallySays}
 use Rattle.text.specs.Text.{refusedText}
 use Rattle.report.specs.Listing.{linesFrom, lastLine, listing}
-use Rattle.report.specs.Calls.{startingWith, lineSpace, linesIn, linesText, linesAnswer, linesSays, linesLeaves}
+use Rattle.report.specs.Calls.{startingWith, lineSpace, linesFit, linesText, linesAnswer, linesSays, linesLeaves}
 
-pub record Steps (e : Enumeration) (t : List ℕ) : Type 0 where
+pub record Steps (t : List ℕ) : Type 0 where
   -- a table that the check refuses: its refusal is the whole listing
-  pub bad-table : (bytes : List ℕ) (r : Refusal) → meaning r ≡ checkSays t → refusedText (numberOf r) ≡ listing e t bytes
+  pub bad-table : (bytes : List ℕ) (r : Refusal) → meaning r ≡ checkSays t → refusedText (numberOf r) ≡ listing t bytes
   -- a table file may be too long: as many bytes as there is room for give the listing of all of them
-  pub enough-read : (bytes : List ℕ) → listing e (take tableRoom t) bytes ≡ listing e t bytes
+  pub enough-read : (bytes : List ℕ) → listing (take tableRoom t) bytes ≡ listing t bytes
   -- records in two blocks, the first of whole records: the page and the refused takes of both are those of all the bytes
   pub in-blocks : (pg xs ys : List ℕ) (n : ℕ) → length xs ≡ 8 * n → collected t pg (xs ++ ys) ≡ record {
     page = collected t (collected t pg xs .page) ys .page;
@@ -30,14 +29,14 @@ pub record Steps (e : Enumeration) (t : List ℕ) : Type 0 where
   pub grows : (bytes : List ℕ) → collected t (emptyPage (placesIn t)) bytes .page ≡ grown t (partsOf bytes)
   -- on such a page neither the lines nor the tally are refused
   pub lines-written : Good t → (xs : List (List ℕ)) (p : ℕ) (held : List ℕ) → p < placesIn t → lineSpace ≤ length held
-      → (linesSays e t (grown t xs) p held ≡ linesAnswer e t (grown t xs) p (length held))
-      × (linesLeaves e t (grown t xs) p held ≡ startingWith (linesText e t (grown t xs) p (length held)) held)
-  pub tallied : Good t → (xs : List (List ℕ)) → tallySays e t (grown t xs) ≡ 0 ∷ tallyOf e t (grown t xs)
+      → (linesSays t (grown t xs) p held ≡ linesAnswer t (grown t xs) p (length held))
+      × (linesLeaves t (grown t xs) p held ≡ startingWith (linesText t (grown t xs) p (length held)) held)
+  pub tallied : Good t → (xs : List (List ℕ)) → tallySays t (grown t xs) ≡ 0 ∷ tallyOf t (grown t xs)
   -- what is printed, the first bytes of the buffer, as many as the answer says, is the text
   pub printed : (text held : List ℕ) → take (length text) (startingWith text held) ≡ text
   -- a block of lines has one line at the least and ends with the last place at the most, and goes on where the lines before it ended
-  pub goes-on : (p b : ℕ) → p < placesIn t → lineSpace ≤ b → (p < p + linesIn t p b) × (p + linesIn t p b ≤ placesIn t)
-  pub one-block-more : (pg : List ℕ) (p b : ℕ) → linesFrom e t pg 0 p ++ linesText e t pg p b ≡ linesFrom e t pg 0 (p + linesIn t p b)
+  pub goes-on : (p b : ℕ) → p < placesIn t → lineSpace ≤ b → (p < p + linesFit t p b) × (p + linesFit t p b ≤ placesIn t)
+  pub one-block-more : (pg : List ℕ) (p b : ℕ) → linesFrom t pg 0 p ++ linesText t pg p b ≡ linesFrom t pg 0 (p + linesFit t p b)
   -- all places and the last line are the listing
   pub whole : Good t → (bytes pg : List ℕ) (refused : ℕ) → collected t (emptyPage (placesIn t)) bytes ≡ record { page = pg; refused = refused }
-      → linesFrom e t pg 0 (placesIn t) ++ lastLine (tallyOf e t pg) refused ≡ listing e t bytes
+      → linesFrom t pg 0 (placesIn t) ++ lastLine (tallyOf t pg) refused ≡ listing t bytes

@@ -4,17 +4,16 @@ pub mod inner;
 
 use answers::Refusal;
 use answers::number;
-use inner::block::lines_in;
+use inner::block::lines_from;
 use page::Counts;
 use pairing::inner::survey::Surveyed;
-use pairing::inner::survey::survey;
+use places::inner::opening::survey_look;
 use text::inner::lines::write_last_line;
 use text::inner::lines::write_refused_line;
 ghost use mathlib.Core.Path.{_≡_};
 ghost use Prim.Native.Nat.{_≤_};
 ghost use lib.ListN.{length};
 ghost use Rattle.answers.specs.Refusals.{numberOf};
-ghost use Rattle.enumeration.proofs.Product.{product};
 ghost use Rattle.page.specs.Meanings.{countsMeaning};
 ghost use Rattle.text.specs.Text.{refusedText};
 ghost use Rattle.report.specs.Listing.{lastLine};
@@ -34,10 +33,10 @@ pub enum Lined {
 
 // The call lines: those of the places from `from` on, as many as there are or as the buffer has room for, 256 bytes each.
 pub fn lines(table: &[u8], page: &[u8], from: usize, out: &mut [u8]) -> Listed
-    ensures { λ r. ⌜ (listedMeaning r ≡ linesSays product (now (table .entry)) (now (page .entry)) from (now (out .entry))) × (now (out .exit) ≡ linesLeaves product (now (table .entry)) (now (page .entry)) from (now (out .entry))) × (sizeListed r ≤ length (now (out .exit))) ⌝ }
+    ensures { λ r. ⌜ (listedMeaning r ≡ linesSays (now (table .entry)) (now (page .entry)) from (now (out .entry))) × (now (out .exit) ≡ linesLeaves (now (table .entry)) (now (page .entry)) from (now (out .entry))) × (sizeListed r ≤ length (now (out .exit))) ⌝ }
 {
-    match survey(table, from) {
-        Surveyed::Good { places, row } => lines_in(table, places, row, page, from, out),
+    match survey_look(table, page, from) {
+        Surveyed::Good { places, row } => lines_from(table, places, row, page, from, out),
         Surveyed::Bad(refusal) => Listed::Refused(refusal),
     }
 }

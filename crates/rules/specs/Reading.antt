@@ -66,9 +66,13 @@ carried judged.Missing v = []
 carried judged.Contested v = []
 carried (judged.Unreadable reason) v = []
 
+-- what the answer j carries of coordinate i
+abbrev pub carriedBy : List ℕ → Judged → ℕ → List Float
+carriedBy row j i = carried j (valueIn row (shown row j) i)
+
 -- what it is to say, and the value that it carries; a refusal carries none
 abbrev pub coefficientSays : List ℕ → List ℕ → ℕ → ℕ → List ℕ
 coefficientSays t pg p i = firstOf (coefficientChecks t pg p i) (told (judgeAt t pg p))
 
 abbrev pub coefficientCarries : List ℕ → List ℕ → ℕ → ℕ → List Float
-coefficientCarries t pg p i = leaves (coefficientChecks t pg p i) (carried (judgeAt t pg p) (valueAt t pg p i)) []
+coefficientCarries t pg p i = leaves (coefficientChecks t pg p i) (carriedBy (rowFor t p) (judgeAt t pg p) i) []

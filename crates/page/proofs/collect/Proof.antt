@@ -1,26 +1,22 @@
--- `page::collect` takes a run of records: all parts are refused where the table is bad, or else what is done for a good table. Assumes nothing.
+-- `page::collect` takes a run of records: all parts are refused where the table or the page is, or else what is done behind their checks. Assumes nothing.
 use mathlib.Core.Path.{sym, ap, _∙_}
 use borrow.Author.Needs.{needs}
-use Rattle.pairing.proofs.Surveys.{survey-good}
-use Rattle.pairing.proofs.Refused.{table-fails}
-use Rattle.rules.specs.Taking.{Received}
+use Rattle.pairing.proofs.Surveys.{survey-fails}
+use Rattle.rules.specs.Taking.{pageChecks, Received}
 use Rattle.page.proofs.Collecting.{shut-collected}
-use Rattle.places.proofs.Parts.{sized-by}
+use Rattle.page.proofs.Surveyed.{page-ready}
 use Rattle.page.proofs.collect.Statement.{statement}
 use Rattle.page.proofs.collect.Tie as tie
 
-collect-in-requires : tie.Need-collect-in-requires
-collect-in-requires c κs =
-    let a = c .before .before .before .before .before .before .before .before .args in
-    let told = c .before .before .places .given in
-    sized-by (survey-good (a .table .now) 0 (told .1) (c .before .before .before .before .survey .ensures))
+collect-records-requires : tie.Need-collect-records-requires
+collect-records-requires c κs = let a = c .before .before .before .before .before .before .before .before .before .args in page-ready (a .table .now) (a .page .now) (c .before .before .before .before .survey-page .ensures) (c .before .before .places .given .1)
 
 returns-2 : tie.Need-returns-2
 returns-2 c =
-    let a = c .before .before .before .before .before .before .before .args in
-    let told = c .before .enum-told .given in
-    let says = c .before .before .before .survey .ensures in
-    let all = shut-collected (a .table .now) (a .page .now) (a .bytes .now) (table-fails (a .table .now) 0 (told .1) says) in
+    let a = c .before .before .before .before .before .before .before .before .args in
+    let t = a .table .now in
+    let pg = a .page .now in
+    let all = shut-collected t pg (a .bytes .now) (survey-fails (pageChecks t pg) t 0 (c .before .before .before .survey-page .ensures) (c .before .enum-told .given .1)) in
     (c .parts .ensures ∙ ap (λ (s : Received). s .refused) (sym all), ap (λ (s : Received). s .page) (sym all))
 
 pub collect-spec : {M : Type 1} → statement M
@@ -29,9 +25,10 @@ collect-spec =
     (tie.spec
     (λ c κs. search needs)
     (λ c. search needs)
-    collect-in-requires
+    collect-records-requires
     (λ c. search needs)
     (λ c κs. search needs)
+    (λ c. search needs)
     (λ c. search needs)
     (λ c. search needs)
     returns-2)

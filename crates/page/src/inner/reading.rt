@@ -1,30 +1,30 @@
-// A place of a good table read: its point, or one of its coefficients.
+// A place read: its point, or one of its coefficients.
 use crate::Answer;
 use crate::Reading;
 use crate::Value;
 use crate::Valued;
 use answers::Refusal;
-use cells::inner::rule::start;
-use counts::Radius;
+use cells::inner::judging::Seen;
 use floats::inner::over_256;
 use places::inner::looking::Looked;
 use places::inner::looking::look;
 use places::inner::showing::show;
-use places::inner::showing::write_index;
-use rows::inner::row;
+use rows::inner::row::length;
+use rows::inner::row::step;
 use rules::Judged;
+ghost use mathlib.Core.List.{[]};
 ghost use mathlib.Core.Path.{_≡_};
 ghost use Prim.Native.Nat.{_≤_, _<_};
 ghost use lib.IntN.{pos, natAbs, _*ℤ_};
-ghost use lib.ListN.{getD};
-ghost use Rattle.enumeration.proofs.Product.{product};
-ghost use Rattle.enumeration.specs.Reading.{productPoint};
+ghost use lib.ListN as listed;
+ghost use Rattle.answers.specs.Checks.{firstOf, leaves};
 ghost use Rattle.floats.specs.Exact.{over256};
-ghost use Rattle.tables.specs.Row.{lengthOf, stepOf};
-ghost use Rattle.tables.specs.Table.{Surveys};
-ghost use Rattle.rules.specs.Judging.{shown, Indexes, Shows};
-ghost use Rattle.rules.specs.Reading.{told, carried, readSaysIn, readLeavesIn, coefficientSaysIn, coefficientCarriesIn};
-ghost use Rattle.cells.specs.Bounds.{InTable};
+ghost use Rattle.layout.specs.Bounds.{InPage};
+ghost use Rattle.layout.specs.Layout.{cellAt};
+ghost use Rattle.tables.specs.Row.{lengthOf, IsRow};
+ghost use Rattle.rules.specs.Judging.{judge, shown, Shows};
+ghost use Rattle.rules.specs.Reading.{told, carried, carriedBy, valueIn, readRest, coefficientRest};
+ghost use Rattle.cells.specs.Seen.{Handed};
 ghost use Rattle.page.specs.Meanings.{answerMeaning, readMeaning, valueMeaning, valuesIn, coefficientMeaning, coefficientValues};
 
 // The answer that a caller sees.
@@ -46,32 +46,27 @@ fn answer(judged: Judged) -> Answer
     }
 }
 
-// What read does with a good table: the checks 8, 4 and 12, and the work.
-pub fn read_in(
-    table: &[u8],
-    places: usize,
-    row: usize,
+// What read does at a place of this row, which has this number: the checks 4 and 12, and the work.
+pub fn read_at(
+    row: &[u8],
+    number: usize,
     page: &[u8],
+    places: usize,
     place: usize,
     out: &mut [i32],
 ) -> Reading
-    requires { ⌜ Surveys (now table) place places row ⌝ }
-    ensures { λ r. ⌜ (readMeaning r ≡ readSaysIn product (now (table .entry)) (now (page .entry)) place (now (out .entry))) × (now (out .exit) ≡ readLeavesIn product (now (table .entry)) (now (page .entry)) place (now (out .entry))) ⌝ }
+    requires { ⌜ IsRow (now row) × InPage (now page) places place ⌝ }
+    ensures says { λ r. ⌜ readMeaning r ≡ firstOf (readRest (now (row .entry)) (now (page .entry)) place (listed.length (now (out .entry)))) (told (judge (now (row .entry)) number (cellAt (now (page .entry)) place))) ⌝ }
+    ensures leaves { λ r. ⌜ now (out .exit) ≡ leaves (readRest (now (row .entry)) (now (page .entry)) place (listed.length (now (out .entry)))) (shown (now (row .entry)) (judge (now (row .entry)) number (cellAt (now (page .entry)) place))) (now (out .entry)) ⌝ }
 {
-    if places <= place {
-        return Reading::Refused(Refusal::NoSuchPlace);
-    }
-    if page.len() != start(places) {
+    if out.len() != length(row).0 {
         return Reading::Refused(Refusal::BufferLength);
     }
-    let length = row::length(table, row);
-    if out.len() != length.0 {
-        return Reading::Refused(Refusal::BufferLength);
-    }
-    match look(table, row, page, place) {
+    match look(row, number, page, places, place) {
         Looked::Bad => Reading::Refused(Refusal::BadCell),
-        Looked::At(judged) => {
-            show(length, judged, out);
+        Looked::At(seen) => {
+            show(row, seen, out);
+            let judged = seen.judged;
             Reading::Answered(answer(judged))
         }
     }
@@ -85,60 +80,58 @@ fn scaled(c: i32, step: usize) -> f32
     over_256(c * step as i32)
 }
 
-// The value of a coordinate of the point of an index below N.
-fn value_of(table: &[u8], row: usize, radius: usize, n: u64, coordinate: usize) -> f32
-    requires { ⌜ InTable (now table) row × Indexes product (lengthOf (now table) row) radius n × (coordinate < lengthOf (now table) row) ⌝ }
-    ensures { λ v. ⌜ v ≡ over256 (getD (productPoint (lengthOf (now (table .entry)) row) radius n) coordinate (pos 0) *ℤ pos (stepOf (now (table .entry)) row)) ⌝ }
+// The value of a coordinate of what a place shows.
+fn value_of(row: &[u8], seen: Seen, coordinate: usize) -> f32
+    requires { ⌜ IsRow (now row) × Shows (now row) (seen .judged) × Handed (now row) (seen .judged) (seen .found) × (coordinate < lengthOf (now row)) ⌝ }
+    ensures { λ v. ⌜ v ≡ valueIn (now (row .entry)) (shown (now (row .entry)) (seen .judged)) coordinate ⌝ }
 {
-    let length = row::length(table, row);
-    let l = length.0;
+    let l = length(row).0;
     let mut point = [0i32; 16];
-    write_index(length, Radius(radius), n, &mut point[..l]);
+    show(row, seen, &mut point[..l]);
     let c = point[coordinate];
-    scaled(c, row::step(table, row))
+    scaled(c, step(row))
 }
 
-// The answer of a coefficient, with its value where the place is sound or mended.
-fn value(table: &[u8], row: usize, judged: Judged, coordinate: usize) -> Value
-    requires { ⌜ InTable (now table) row × Shows product (lengthOf (now table) row) judged × (coordinate < lengthOf (now table) row) ⌝ }
-    ensures { λ r. ⌜ (valueMeaning r ≡ told judged) × (valuesIn r ≡ carried judged (over256 (getD (shown product (lengthOf (now (table .entry)) row) judged) coordinate (pos 0) *ℤ pos (stepOf (now (table .entry)) row)))) ⌝ }
+// The answer of a coefficient; v is its value where the place is sound or mended.
+fn valued(judged: Judged, v: f32) -> Value
+    ensures { λ r. ⌜ (valueMeaning r ≡ told judged) × (valuesIn r ≡ carried judged v) ⌝ }
 {
     match judged {
-        Judged::Sound { radius, index } => {
-            Value::Sound(value_of(table, row, radius, index, coordinate))
-        }
-        Judged::Mended { radius, index } => {
-            Value::Mended(value_of(table, row, radius, index, coordinate))
-        }
+        Judged::Sound {
+            radius: _,
+            index: _,
+        } => Value::Sound(v),
+        Judged::Mended {
+            radius: _,
+            index: _,
+        } => Value::Mended(v),
         Judged::Missing => Value::Missing,
         Judged::Contested => Value::Contested,
         Judged::Unreadable { reason } => Value::Unreadable(reason),
     }
 }
 
-// What coefficient does with a good table: the checks 8, 4, 13 and 12, and the work.
-pub fn coefficient_in(
-    table: &[u8],
-    places: usize,
-    row: usize,
+// What coefficient does at a place of this row, which has this number: the checks 13 and 12, and the work.
+pub fn coefficient_at(
+    row: &[u8],
+    number: usize,
     page: &[u8],
+    places: usize,
     place: usize,
     coordinate: usize,
 ) -> Valued
-    requires { ⌜ Surveys (now table) place places row ⌝ }
-    ensures { λ r. ⌜ (coefficientMeaning r ≡ coefficientSaysIn product (now (table .entry)) (now (page .entry)) place coordinate) × (coefficientValues r ≡ coefficientCarriesIn product (now (table .entry)) (now (page .entry)) place coordinate) ⌝ }
+    requires { ⌜ IsRow (now row) × InPage (now page) places place ⌝ }
+    ensures says { λ r. ⌜ coefficientMeaning r ≡ firstOf (coefficientRest (now (row .entry)) (now (page .entry)) place coordinate) (told (judge (now (row .entry)) number (cellAt (now (page .entry)) place))) ⌝ }
+    ensures carries { λ r. ⌜ coefficientValues r ≡ leaves (coefficientRest (now (row .entry)) (now (page .entry)) place coordinate) (carriedBy (now (row .entry)) (judge (now (row .entry)) number (cellAt (now (page .entry)) place)) coordinate) [] ⌝ }
 {
-    if places <= place {
-        return Valued::Refused(Refusal::NoSuchPlace);
-    }
-    if page.len() != start(places) {
-        return Valued::Refused(Refusal::BufferLength);
-    }
-    if row::length(table, row).0 <= coordinate {
+    if length(row).0 <= coordinate {
         return Valued::Refused(Refusal::NoSuchCoordinate);
     }
-    match look(table, row, page, place) {
+    match look(row, number, page, places, place) {
         Looked::Bad => Valued::Refused(Refusal::BadCell),
-        Looked::At(judged) => Valued::Answered(value(table, row, judged, coordinate)),
+        Looked::At(seen) => {
+            let judged = seen.judged;
+            Valued::Answered(valued(judged, value_of(row, seen, coordinate)))
+        }
     }
 }

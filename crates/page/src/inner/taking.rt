@@ -1,45 +1,30 @@
-// Records taken into the page of a good table.
+// Records taken into a page.
 use crate::Arrival;
 use answers::Refusal;
 use cells::inner::rule::arrive;
-use cells::inner::rule::start;
 use records::inner::place_in;
+use records::inner::wrong_record;
 ghost use mathlib.Core.List.{[], _∷_};
 ghost use mathlib.Core.Path.{_≡_};
 ghost use Prim.Native.Nat.{_+_, _/_, _≤_, _<_, min};
-ghost use Rattle.answers.specs.Checks.{anyOf};
-ghost use Rattle.records.specs.Record.{wrongRecord};
-ghost use Rattle.rules.specs.Cell.{wrongPage};
-ghost use Rattle.rules.specs.Taking.{takeSaysIn, takeLeavesIn, refusals, takeLeaves, collected};
-ghost use Rattle.places.specs.Bounds.{Sized};
+ghost use Rattle.answers.specs.Checks.{firstOf, leaves};
+ghost use Rattle.rules.specs.Taking.{takeRest, takeInto, refusals, takeLeaves, collected};
+ghost use Rattle.page.specs.Bounds.{Ready};
 ghost use Rattle.page.specs.Meanings.{takeMeaning};
 
-// Whether the record is not 8 bytes, or the page not 9 for each place.
-fn wrong_lengths(places: usize, page: usize, bytes: usize) -> bool
-    requires { ⌜ places ≤ 4096 ⌝ }
-    ensures { λ b. ⌜ b ≡ anyOf (wrongRecord bytes ∷ wrongPage places page ∷ []) ⌝ }
+// What take does with a table and a page that passed: the checks 4, 8 and 12, and the work. The table is what the contract speaks of.
+pub fn take_record(table: &[u8], places: usize, page: &mut [u8], bytes: &[u8]) -> Arrival
+    requires { ⌜ Ready (now table) (now page) places ⌝ }
+    ensures { λ r. ⌜ (takeMeaning r ≡ firstOf (takeRest (now (table .entry)) (now (page .entry)) (now (bytes .entry))) (0 ∷ [])) × (now (page .exit) ≡ leaves (takeRest (now (table .entry)) (now (page .entry)) (now (bytes .entry))) (takeInto (now (page .entry)) (now (bytes .entry))) (now (page .entry))) ⌝ }
 {
-    if bytes != 8 {
-        return true;
-    }
-    page != start(places)
-}
-
-// What take does with a good table: the checks 4, 8 and 12, and the work. The table is what the contract speaks of.
-pub fn take_in(table: &[u8], places: usize, page: &mut [u8], bytes: &[u8]) -> Arrival
-    requires { ⌜ Sized (now table) places ⌝ }
-    ensures { λ r. ⌜ (takeMeaning r ≡ takeSaysIn (now (table .entry)) (now (page .entry)) (now (bytes .entry))) × (now (page .exit) ≡ takeLeavesIn (now (table .entry)) (now (page .entry)) (now (bytes .entry))) ⌝ }
-{
-    if wrong_lengths(places, page.len(), bytes.len()) {
+    if wrong_record(bytes.len()) {
         return Arrival::Refused(Refusal::BufferLength);
     }
     let place = place_in(bytes);
     if places <= place {
         return Arrival::Refused(Refusal::NoSuchPlace);
     }
-    let from = start(place);
-    let to = start(place + 1);
-    if arrive(place, bytes, &mut page[from..to]) {
+    if arrive(page, places, place, bytes) {
         return Arrival::Refused(Refusal::BadCell);
     }
     Arrival::Taken
@@ -47,10 +32,10 @@ pub fn take_in(table: &[u8], places: usize, page: &mut [u8], bytes: &[u8]) -> Ar
 
 // The same, with 1 for a refusal and 0 for a record that is taken.
 fn refusals_of(table: &[u8], places: usize, page: &mut [u8], bytes: &[u8]) -> usize
-    requires { ⌜ Sized (now table) places ⌝ }
+    requires { ⌜ Ready (now table) (now page) places ⌝ }
     ensures { λ r. ⌜ (r ≡ refusals (now (table .entry)) (now (page .entry)) (now (bytes .entry))) × (now (page .exit) ≡ takeLeaves (now (table .entry)) (now (page .entry)) (now (bytes .entry))) × (r ≤ 1) ⌝ }
 {
-    match take_in(table, places, page, bytes) {
+    match take_record(table, places, page, bytes) {
         Arrival::Taken => 0,
         Arrival::Refused(_) => 1,
     }
@@ -77,9 +62,9 @@ pub fn parts(bytes: usize) -> usize
     bytes / 8 + 1
 }
 
-// What collect does with a good table.
-pub fn collect_in(table: &[u8], places: usize, page: &mut [u8], bytes: &[u8]) -> usize
-    requires { ⌜ Sized (now table) places ⌝ }
+// What collect does with a table and a page that passed.
+pub fn collect_records(table: &[u8], places: usize, page: &mut [u8], bytes: &[u8]) -> usize
+    requires { ⌜ Ready (now table) (now page) places ⌝ }
     ensures { λ r. ⌜ (r ≡ collected (now (table .entry)) (now (page .entry)) (now (bytes .entry)) .refused) × (now (page .exit) ≡ collected (now (table .entry)) (now (page .entry)) (now (bytes .entry)) .page) ⌝ }
 {
     let mut at = 0;

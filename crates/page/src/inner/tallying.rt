@@ -1,39 +1,36 @@
-// The tally over the page of a good table, in one pass.
+// The tally over a page, in one pass.
 use crate::Counts;
 use crate::Tallied;
 use answers::Refusal;
-use cells::inner::rule::start;
+use pairing::inner::walking::walk_from;
+use pairing::inner::walking::walked;
 use places::inner::looking::Looked;
 use places::inner::looking::look;
 use places::inner::showing::answer_number;
-use places::inner::walking::Walk;
-use places::inner::walking::walked;
-use rows::inner::row;
+use rows::inner::row::row_at;
+ghost use mathlib.Core.List.{_∷_};
 ghost use mathlib.Core.Path.{_≡_};
-ghost use Rattle.enumeration.proofs.Product.{product};
-ghost use Rattle.rules.specs.Tallying.{tallySaysIn};
-ghost use Rattle.places.specs.Bounds.{Sized};
+ghost use Rattle.answers.specs.Checks.{firstOf};
+ghost use Rattle.rules.specs.Tallying.{tallyRest, tallyOf};
+ghost use Rattle.tables.specs.Table.{rowOf};
+ghost use Rattle.page.specs.Bounds.{Ready};
 ghost use Rattle.page.specs.Meanings.{tallyMeaning};
 
-// What tally does with a good table: the checks 4 and 12, and the counts on the way.
-pub fn tally_in(table: &[u8], places: usize, page: &[u8]) -> Tallied
-    requires { ⌜ Sized (now table) places ⌝ }
-    ensures { λ r. ⌜ tallyMeaning r ≡ tallySaysIn product (now (table .entry)) (now (page .entry)) ⌝ }
+// What tally does with a table and a page that passed, from the row of place 0 on: check 12 at every place, and the counts on the way.
+pub fn tally_page(table: &[u8], places: usize, row: usize, page: &[u8]) -> Tallied
+    requires { ⌜ Ready (now table) (now page) places × (row ≡ rowOf (now table) 0) ⌝ }
+    ensures { λ r. ⌜ tallyMeaning r ≡ firstOf (tallyRest (now (table .entry)) (now (page .entry))) (0 ∷ tallyOf (now (table .entry)) (now (page .entry))) ⌝ }
 {
-    if page.len() != start(places) {
-        return Tallied::Refused(Refusal::BufferLength);
-    }
     let mut counts = [0usize; 5];
-    let mut walk = Walk {
-        row: 0,
-        end: row::places(table, 0),
-    };
+    let mut walk = walk_from(table, row, 0);
     let mut place = 0;
     while place < places {
         walk = walked(table, walk, place);
-        match look(table, walk.row, page, place) {
+        let number = walk.row;
+        match look(row_at(table, number), number, page, places, place) {
             Looked::Bad => return Tallied::Refused(Refusal::BadCellAt { place }),
-            Looked::At(judged) => {
+            Looked::At(seen) => {
+                let judged = seen.judged;
                 let n = answer_number(judged);
                 counts[n] += 1;
             }

@@ -1,87 +1,83 @@
 // A block of lines: those of some places, one after the other, from the start of the lent buffer on.
 use crate::Listed;
 use answers::Refusal;
-use cells::inner::rule::start;
-use counts::Length;
-use places::inner::looking::bad_at;
+use answers::Verdict;
+use cells::inner::judging::Seen;
+use cells::inner::rule::bad_at;
+use pairing::inner::walking::walk_from;
+use pairing::inner::walking::walked;
 use places::inner::looking::judge_at;
 use places::inner::showing::answer_number;
 use places::inner::showing::reason;
 use places::inner::showing::show;
-use places::inner::walking::walk_from;
-use places::inner::walking::walked;
-use rows::inner::row;
-use rules::Judged;
+use rows::inner::row::length;
+use rows::inner::row::row_at;
 use text::inner::lines::write_place_line;
 ghost use mathlib.Core.Path.{_≡_};
 ghost use mathlib.Core.List.{[], _∷_};
 ghost use Prim.Native.Nat.{_+_, _-_, _*_, _≤_, min};
 ghost use lib.ListN as listed;
-ghost use Rattle.answers.specs.Checks.{firstOf, eachFrom};
-ghost use Rattle.enumeration.proofs.Product.{product};
-ghost use Rattle.tables.specs.Table.{Surveys};
-ghost use Rattle.rules.specs.Judging.{answerNumber, reasonOf, shown, Shows};
-ghost use Rattle.rules.specs.Tallying.{cellCheck};
-ghost use Rattle.places.specs.Looking.{Lookable};
-ghost use Rattle.text.specs.Text.{placeText};
-ghost use Rattle.text.specs.Written.{Wrote};
-ghost use Rattle.report.specs.Listing.{lineIn, linesFrom};
-ghost use Rattle.report.specs.Calls.{lineSpace, listedMeaning, sizeListed, linesSaysIn, linesLeavesIn};
-ghost use Rattle.report.specs.Bounds.{CellsIn, Writable, cellsMeaning};
+ghost use Rattle.answers.specs.Checks.{firstOf, leaves, eachFrom};
+ghost use Rattle.answers.specs.Refusals.{verdictMeaning};
+ghost use Rattle.buffers.specs.Written.{Wrote};
+ghost use Rattle.cells.specs.Seen.{Handed};
+ghost use Rattle.layout.specs.Bounds.{InPage};
+ghost use Rattle.rules.specs.Judging.{Shows};
+ghost use Rattle.rules.specs.Taking.{cellCheckAt};
+ghost use Rattle.tables.specs.Row.{lengthOf, IsRow};
+ghost use Rattle.report.specs.Listing.{lineOf, lineIn, linesFrom};
+ghost use Rattle.report.specs.Calls.{lineSpace, listedMeaning, sizeListed, startingWith, linesRest, linesText, linesAnswer};
+ghost use Rattle.report.specs.Bounds.{PlacesIn, HasRoom, Listable};
 
 // Whether the cells of some places are good, or the refusal that names the lowest that is not.
-pub enum Cells {
-    Good,
-    Bad(Refusal),
-}
-
-fn check_cells(page: &[u8], from: usize, to: usize) -> Cells
-    requires { ⌜ CellsIn (now page) to ⌝ }
-    ensures { λ r. ⌜ cellsMeaning r ≡ firstOf (eachFrom (cellCheck (now (page .entry))) from (to - from)) (0 ∷ []) ⌝ }
+fn check_cells(page: &[u8], places: usize, from: usize, to: usize) -> Verdict
+    requires { ⌜ PlacesIn (now page) places to ⌝ }
+    ensures { λ r. ⌜ verdictMeaning r ≡ firstOf (eachFrom (cellCheckAt (now (page .entry))) from (to - from)) (0 ∷ []) ⌝ }
 {
     let mut place = from;
     while place < to {
-        if bad_at(page, place) {
-            return Cells::Bad(Refusal::BadCellAt { place });
+        if bad_at(page, places, place) {
+            return Verdict::Refused(Refusal::BadCellAt { place });
         }
         place += 1;
     }
-    Cells::Good
+    Verdict::Passed
 }
 
-// The line of a place that shows this, with room for its point; where it ends.
-fn write_shown(
+// The line of a place where this was seen, with room for its point; where it ends.
+fn write_seen(
+    row: &[u8],
     place: usize,
-    length: Length,
-    judged: Judged,
+    seen: Seen,
     point: &mut [i32],
     at: usize,
     out: &mut [u8],
 ) -> usize
-    requires { ⌜ Shows product (length .0) judged × (listed.length (now point) ≡ length .0) × (length .0 ≤ 16) × (at + lineSpace ≤ listed.length (now out)) ⌝ }
-    ensures { λ r. ⌜ Wrote (now (out .entry)) at (placeText place (answerNumber judged) (reasonOf judged) (shown product (length .0) judged)) lineSpace r (now (out .exit)) ⌝ }
+    requires { ⌜ IsRow (now row) × Shows (now row) (seen .judged) × Handed (now row) (seen .judged) (seen .found) × (listed.length (now point) ≡ lengthOf (now row)) × (at + lineSpace ≤ listed.length (now out)) ⌝ }
+    ensures { λ r. ⌜ Wrote (now (out .entry)) at (lineOf (now (row .entry)) place (seen .judged)) lineSpace r (now (out .exit)) ⌝ }
 {
-    show(length, judged, point);
+    show(row, seen, point);
+    let judged = seen.judged;
     write_place_line(place, answer_number(judged), reason(judged), point, at, out)
 }
 
-// The line of a place in this row; where it ends.
+// The line of a place in this row, which has this number; where it ends.
 fn write_line(
-    table: &[u8],
-    row: usize,
+    row: &[u8],
+    number: usize,
     page: &[u8],
+    places: usize,
     place: usize,
     at: usize,
     out: &mut [u8],
 ) -> usize
-    requires { ⌜ Lookable (now table) row (now page) place × (at + lineSpace ≤ listed.length (now out)) ⌝ }
-    ensures { λ r. ⌜ Wrote (now (out .entry)) at (lineIn product (now (table .entry)) row (now (page .entry)) place) lineSpace r (now (out .exit)) ⌝ }
+    requires { ⌜ IsRow (now row) × InPage (now page) places place × (at + lineSpace ≤ listed.length (now out)) ⌝ }
+    ensures { λ r. ⌜ Wrote (now (out .entry)) at (lineIn (now (row .entry)) number (now (page .entry)) place) lineSpace r (now (out .exit)) ⌝ }
 {
-    let length = row::length(table, row);
-    let l = length.0;
-    let judged = judge_at(table, row, page, place);
+    let l = length(row).0;
+    let seen = judge_at(row, number, page, places, place);
     let mut point = [0i32; 16];
-    write_shown(place, length, judged, &mut point[..l], at, out)
+    write_seen(row, place, seen, &mut point[..l], at, out)
 }
 
 // The lines of the places from `from`, which is in this row, to the one before `to`; where they end.
@@ -89,19 +85,21 @@ fn write_lines(
     table: &[u8],
     row: usize,
     page: &[u8],
+    places: usize,
     from: usize,
     to: usize,
     out: &mut [u8],
 ) -> usize
-    requires { ⌜ Writable (now table) row (now page) from to (now out) ⌝ }
-    ensures { λ r. ⌜ Wrote (now (out .entry)) 0 (linesFrom product (now (table .entry)) (now (page .entry)) from (to - from)) (lineSpace * (to - from)) r (now (out .exit)) ⌝ }
+    requires { ⌜ HasRoom (now table) row (now page) places from to (now out) ⌝ }
+    ensures { λ r. ⌜ Wrote (now (out .entry)) 0 (linesFrom (now (table .entry)) (now (page .entry)) from (to - from)) (lineSpace * (to - from)) r (now (out .exit)) ⌝ }
 {
     let mut walk = walk_from(table, row, from);
     let mut end = 0;
     let mut place = from;
     while place < to {
         walk = walked(table, walk, place);
-        end = write_line(table, walk.row, page, place, end, out);
+        let number = walk.row;
+        end = write_line(row_at(table, number), number, page, places, place, end, out);
         place += 1;
     }
     end
@@ -116,8 +114,8 @@ fn least(a: usize, b: usize) -> usize
     b
 }
 
-// What lines does with a good table: the checks 8, 4 and 12, and the work.
-pub fn lines_in(
+// What lines does with a table, a place and a page that passed: the checks 4 and 12, and the work.
+pub fn lines_from(
     table: &[u8],
     places: usize,
     row: usize,
@@ -125,24 +123,20 @@ pub fn lines_in(
     from: usize,
     out: &mut [u8],
 ) -> Listed
-    requires { ⌜ Surveys (now table) from places row ⌝ }
-    ensures { λ r. ⌜ (listedMeaning r ≡ linesSaysIn product (now (table .entry)) (now (page .entry)) from (now (out .entry))) × (now (out .exit) ≡ linesLeavesIn product (now (table .entry)) (now (page .entry)) from (now (out .entry))) × (sizeListed r ≤ listed.length (now (out .exit))) ⌝ }
+    requires { ⌜ Listable (now table) (now page) from places row ⌝ }
+    ensures says { λ r. ⌜ listedMeaning r ≡ firstOf (linesRest (now (table .entry)) (now (page .entry)) from (listed.length (now (out .entry)))) (linesAnswer (now (table .entry)) (now (page .entry)) from (listed.length (now (out .entry)))) ⌝ }
+    ensures leaves { λ r. ⌜ now (out .exit) ≡ leaves (linesRest (now (table .entry)) (now (page .entry)) from (listed.length (now (out .entry)))) (startingWith (linesText (now (table .entry)) (now (page .entry)) from (listed.length (now (out .entry)))) (now (out .entry))) (now (out .entry)) ⌝ }
+    ensures fits { λ r. ⌜ sizeListed r ≤ listed.length (now (out .exit)) ⌝ }
 {
-    if places <= from {
-        return Listed::Refused(Refusal::NoSuchPlace);
-    }
-    if page.len() != start(places) {
-        return Listed::Refused(Refusal::BufferLength);
-    }
     if out.len() < 256 {
         return Listed::Refused(Refusal::BufferLength);
     }
     let to = from + least(places - from, out.len() / 256);
-    match check_cells(page, from, to) {
-        Cells::Good => Listed::Written {
+    match check_cells(page, places, from, to) {
+        Verdict::Passed => Listed::Written {
             to,
-            size: write_lines(table, row, page, from, to, out),
+            size: write_lines(table, row, page, places, from, to, out),
         },
-        Cells::Bad(refusal) => Listed::Refused(refusal),
+        Verdict::Refused(refusal) => Listed::Refused(refusal),
     }
 }

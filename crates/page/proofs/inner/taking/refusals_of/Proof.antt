@@ -10,17 +10,23 @@ use Rattle.page.proofs.inner.taking.refusals_of.Tie as tie
 returns : tie.Need-returns
 returns c =
     let a = c .before .before .before .before .before .before .before .before .before in
-    let did = c .before .before .before .before .take-in .ensures in
+    let t = a .args .table .now in
+    let pg = a .args .page .now in
+    let x = a .args .bytes .now in
+    let did = c .before .before .before .before .take-record .ensures in
     let said = ap takeMeaning (sym (c .enum-told .given .1)) ∙ did .0 in
-    (counts-0 (a .pre) (a .args .page .now) (a .args .bytes .now) said, leaves-all (a .pre) (a .args .page .now) (a .args .bytes .now) (did .1), omega arith)
+    (counts-0 t pg (a .pre .passes) x said, leaves-all t pg (a .pre .passes) x (did .1), omega arith)
 
 returns-2 : tie.Need-returns-2
 returns-2 c =
     let a = c .before .before .before .before .before .before .before .before .before in
-    let did = c .before .before .before .before .take-in .ensures in
+    let t = a .args .table .now in
+    let pg = a .args .page .now in
+    let x = a .args .bytes .now in
+    let did = c .before .before .before .before .take-record .ensures in
     let told = c .enum-told2 .given in
     let said = ap takeMeaning (sym (told .1)) ∙ did .0 in
-    (counts-1 (a .pre) (a .args .page .now) (a .args .bytes .now) (told .0 .0) said, leaves-all (a .pre) (a .args .page .now) (a .args .bytes .now) (did .1), omega arith)
+    (counts-1 t pg (a .pre .passes) x (told .0 .0) said, leaves-all t pg (a .pre .passes) x (did .1), omega arith)
 
 pub refusals-of-spec : {M : Type 1} → statement M
 refusals-of-spec =
