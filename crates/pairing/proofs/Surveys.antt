@@ -66,8 +66,8 @@ module _ {t : List ℕ} {p places n : ℕ} (found : Surveys (placeChecks t p) t 
   placed : Good t × (p < placesIn t)
   placed = place-passes t p (found .passes)
 
-  pub number-in : n < rowsOf t
-  number-in = rw (found .is-row) (good-place t p (placed .0) (placed .1) .0)
+  pub row-found : n < rowsOf t
+  row-found = rw (found .is-row) (good-place t p (placed .0) (placed .1) .0)
 
   -- `row` is what is lent of it
   module _ {row : List ℕ} (lent : (row ≡ rowAt t n) × (length row ≡ rowLength)) where

@@ -7,7 +7,7 @@ use lib.ListN.{length}
 use Rattle.answers.specs.Checks.{Check}
 use Rattle.tables.specs.Table.{placeChecks, rowFor}
 use Rattle.records.specs.Record.{recordOf}
-use Rattle.pairing.proofs.Surveys.{survey-says, survey-leaves, place-found, number-in, row-surveyed, place-says, place-leaves}
+use Rattle.pairing.proofs.Surveys.{survey-says, survey-leaves, place-found, row-found, row-surveyed, place-says, place-leaves}
 use Rattle.coding.specs.Coded.{radiusNumberFor, codewordFor}
 use Rattle.quantizer.specs.Calls.{quantizeRest, recordFor}
 use Rattle.quantizer.proofs.quantize.Statement.{statement}
@@ -17,7 +17,7 @@ row-at-requires : tie.Need-row-at-requires
 row-at-requires c κs =
     let a = c .before .before .before .before .before .before .before .args in
     let t = a .table .now in
-    number-in (place-found t (a .place) (c .before .before .before .survey-place .ensures) (c .before .row .given .1))
+    row-found (place-found t (a .place) (c .before .before .before .survey-place .ensures) (c .before .row .given .1))
 
 quantize-at-requires : tie.Need-quantize-at-requires
 quantize-at-requires c κs =
