@@ -13,7 +13,7 @@ use Rattle.enumeration.proofs.Product.{product}
 use Rattle.tables.specs.Row.{lengthOf}
 use Rattle.tables.specs.Table.{placesIn, tableChecks, Good, rowOf}
 use Rattle.records.specs.Record.{wrongRecord}
-use Rattle.coefficients.specs.Coefficients.{coefficientChecks}
+use Rattle.coefficients.specs.Coefficients.{usableChecks}
 use Rattle.quantizer.specs.Calls.{quantizeRest, recordFor, quantizeSays, quantizeLeaves}
 use Rattle.channel.proofs.Calls.{demand-1}
 use Rattle.channel.proofs.Refusing.{leaves-through}
@@ -22,14 +22,14 @@ pub record Accepted (t : List ℕ) (p : ℕ) (w : List Float) (lent : List ℕ) 
   pub good : Good t
   pub inside : p < placesIn t
   pub long : length w ≡ lengthOf t (rowOf t p)
-  pub usable : Passes (coefficientChecks w)
+  pub usable : Passes (usableChecks w)
   pub leaves : quantizeLeaves t p w lent ≡ recordFor t p w
 
 pub accepts : (t : List ℕ) (p : ℕ) (w : List Float) (lent : List ℕ) → quantizeSays t p w lent ≡ 0 ∷ [] → Accepted t p w lent
 accepts t p w lent says =
     let none = demand-1 product .quantize t p w lent .answered .0 (ap numberSaid says) in
     let table : Good t = none-of (failsOf (tableChecks t)) (none .0) in
-    let each = none-of (failsOf (coefficientChecks w)) (none .1 .1 .1 .0) in
+    let each = none-of (failsOf (usableChecks w)) (none .1 .1 .1 .0) in
     let lengths = none-of (wrongLength (length w) (lengthOf t (rowOf t p)) ∷ wrongRecord (length lent) ∷ []) (none .1 .1 .0) in
     record {
       good = table;

@@ -22,7 +22,7 @@ use Rattle.tables.specs.Table.{placesIn, tableChecks, checkSays, noSuchPlace, r
 use Rattle.tables.proofs.Seven.{table-of-7}
 use Rattle.pairing.specs.Meanings.{checkMeaning}
 use Rattle.pairing.proofs.OneToOne.{check-one-to-one}
-use Rattle.coefficients.specs.Coefficients as vectors
+use Rattle.coefficients.specs.Coefficients.{usableCheck, usableChecks}
 use Rattle.quantizer.specs.Calls.{quantizeChecks, quantizeMeaning, quantizeRest, quantizeSays, recordFor, wrongLengths}
 use Rattle.quantizer.proofs.OneToOne.{quantize-one-to-one}
 use Rattle.rules.specs.Cell.{wrongPage}
@@ -58,11 +58,11 @@ by-table answer t rest conditions e =
 rest-quantized : (t : List ℕ) (p : ℕ) (w : List Float) (b : ℕ)
     → numberSaid (firstOf (quantizeRest t p w b) (0 ∷ [])) ≡ numberSaid (firstOf (quantizeConditions t p w b) (0 ∷ []))
 rest-quantized t p w b =
-    let last : List Check = condition 11 (vectors.coefficientChecks w) ∷ [] in
+    let last : List Check = condition 11 (usableChecks w) ∷ [] in
     let length-check : Check = record { number = 4; values = []; fails = wrongLengths (lengthOf t (rowOf t p)) (length w) b } in
-    behind (0 ∷ []) (record { number = 8; values = []; fails = noSuchPlace t p }) (length-check ∷ vectors.coefficientChecks w) (length-check ∷ last)
-    (behind (0 ∷ []) length-check (vectors.coefficientChecks w) last
-    (one-number-last (0 ∷ []) 11 (vectors.coefficientChecks w) (each-of (vectors.coefficientCheck w) 11 0 (length w) (λ j. refl))))
+    behind (0 ∷ []) (record { number = 8; values = []; fails = noSuchPlace t p }) (length-check ∷ usableChecks w) (length-check ∷ last)
+    (behind (0 ∷ []) length-check (usableChecks w) last
+    (one-number-last (0 ∷ []) 11 (usableChecks w) (each-of (usableCheck w) 11 0 (length w) (λ j. refl))))
 
 rest-tallied : (answer t pg : List ℕ) → numberSaid (firstOf (tallyRest t pg) answer) ≡ numberSaid (firstOf (tallyConditions t pg) answer)
 rest-tallied answer t pg =

@@ -23,7 +23,7 @@ use Rattle.shares.specs.Best.{firstBest}
 use Rattle.shares.specs.Shares.{largest, give, shared}
 use Rattle.records.specs.Record.{recordOf}
 use Rattle.coefficients.specs.Example.{vector}
-use Rattle.coefficients.specs.Radius.{chosenNumber}
+use Rattle.coefficients.specs.Radius.{chosenRadiusNumber}
 use Rattle.rules.specs.Cell.{cell, setCell, sameBytes}
 use Rattle.rules.specs.Example.{of, first, other}
 use Rattle.rules.specs.Taking.{claims, badCell, takeCell, arrive, after, grown, AllEqual}
@@ -58,13 +58,13 @@ each-byte n h (suc i) = lit< tt
 
 -- both places of the table
 each-sent : PageSent wholeCase (λ p. vector) (λ p. of p 0 1 5) (λ p. sent)
-unfolding toBits lt N binomial D S B sumAfter rangeSize rangeStart patternIndex shapeOffset shapeIndex signIndex weigh productIndex nearestWhole ofPattern unitsOf unusableCoefficient negative byteOf badRadius badRadii badRow placesBefore rowsBefore firstBest largest give shared recordOf chosenNumber
+unfolding toBits lt N binomial D S B sumAfter rangeSize rangeStart patternIndex shapeOffset shapeIndex signIndex weigh productIndex nearestWhole ofPattern unitsOf unusableCoefficient negative byteOf badRadius badRadii badRow placesBefore rowsBefore firstBest largest give shared recordOf chosenRadiusNumber
 each-sent zero h = record { lent = replicate 8 9; accepted = refl; written = refl; point = refl }
 each-sent (suc zero) h = record { lent = replicate 8 9; accepted = refl; written = refl; point = refl }
 each-sent (suc (suc p)) h = absurd (omega arith)
 
 pub witness : Witness
-unfolding onlyClaims claims toBits round lt N binomial D S B sumAfter rangeSize rangeStart width bitsFrom patternIndex shapeOffset shapeIndex signIndex weigh productIndex rangeFrom rangeOf patternOf firstMagnitude shapeLeft shapeOf signsOf pointFrom pointIn productPoint over256 nearestWhole ofPattern unitsOf unusableCoefficient negative byteOf badRadius badRadii badRow placesBefore rowsBefore firstBest largest give shared recordOf chosenNumber cell setCell badCell takeCell arrive after judgeCodeword judgeRecord judge
+unfolding onlyClaims claims toBits round lt N binomial D S B sumAfter rangeSize rangeStart width bitsFrom patternIndex shapeOffset shapeIndex signIndex weigh productIndex rangeFrom rangeOf patternOf firstMagnitude shapeLeft shapeOf signsOf pointFrom pointIn productPoint over256 nearestWhole ofPattern unitsOf unusableCoefficient negative byteOf badRadius badRadii badRow placesBefore rowsBefore firstBest largest give shared recordOf chosenRadiusNumber cell setCell badCell takeCell arrive after judgeCodeword judgeRecord judge
 witness = record {
   is-sent = record { lent = replicate 8 9; accepted = refl; written = refl; point = refl };
   is-read = record {

@@ -17,7 +17,7 @@ use Rattle.points.specs.Calls.{indexChecks, indexMeaning, indexSays, pointCheck
 use Rattle.tables.specs.Row.{lengthOf}
 use Rattle.tables.specs.Table.{placesIn, tableChecks, checkSays, noSuchPlace, rowOf}
 use Rattle.pairing.specs.Meanings.{checkMeaning}
-use Rattle.coefficients.specs.Coefficients as vectors
+use Rattle.coefficients.specs.Coefficients.{usableChecks}
 use Rattle.quantizer.specs.Calls.{quantizeChecks, quantizeLeaves, quantizeMeaning, quantizeSays, wrongLengths}
 use Rattle.rules.specs.Cell.{wrongPage}
 use Rattle.rules.specs.Taking.{takeRest, takeChecks, takeSays, takeLeaves}
@@ -44,7 +44,7 @@ abbrev pub quantizeConditions : List ℕ → ℕ → List Float → ℕ → List
 quantizeConditions t p w b =
     record { number = 8; values = []; fails = noSuchPlace t p }
     ∷ record { number = 4; values = []; fails = wrongLengths (lengthOf t (rowOf t p)) (length w) b }
-    ∷ condition 11 (vectors.coefficientChecks w)
+    ∷ condition 11 (usableChecks w)
     ∷ []
 
 abbrev pub tallyConditions : List ℕ → List ℕ → List Check
