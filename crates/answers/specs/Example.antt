@@ -2,7 +2,7 @@
 -- what it names. proofs/Example.antt computes every line. Assumes nothing.
 use Prim.Native.Nat.{ℕ}
 use mathlib.Core.Path.{_≡_}
-use mathlib.Core.List.{List, [], _∷_}
+use mathlib.Core.List.{[], _∷_}
 use mathlib.Core.Bool.{Bool, true, false}
 use lib.Dec.{ltb}
 use Rattle.answers.specs.Checks.{Check, anyOf, firstOf, leaves, numberSaid, wrongLength, lengthCheck, eachFrom}

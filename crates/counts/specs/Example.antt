@@ -1,5 +1,4 @@
 -- Small counts, written out: the triangle, the ranges of length 3 and radius 4, and widths. proofs/Example.antt computes every line. Assumes nothing.
-use Prim.Native.Nat.{ℕ}
 use mathlib.Core.Path.{_≡_}
 use Rattle.counts.specs.Counts.{N, binomial, D, S, B, R, O}
 use Rattle.counts.specs.Width.{width}

@@ -1,12 +1,12 @@
 -- The cells of a page: a cell that was set is read back, the others are as they were, the page keeps its length, and pages of one length with the
 -- same cells are the same. Argued from where states and records stand (proofs/Offsets.antt). Assumes nothing.
 use Prim.Native.Nat.{ℕ, _+_, _-_, _≤_, _<_}
-use mathlib.Core.Path.{_≡_, refl, sym, ap, ap₂, _∙_}
+use mathlib.Core.Path.{_≡_, sym, ap, ap₂, _∙_}
 use mathlib.Core.List.{List}
 use mathlib.Core.Logic.{⊎-elim}
 use native.Mathlib.Decide.{decLt}
 use native.Mathlib.Omega.{arith}
-use lib.ListN.{length, getD, set, take, drop, replicate, length-drop, length-set, length-replicate, getD-replicate}
+use lib.ListN.{length, getD, set, drop, length-drop, length-set, length-replicate, getD-replicate}
 use lib.Seq.{length-take-le, getD-take, getD-drop, getD-set-same, getD-set-other, ext-getD}
 use Rattle.buffers.proofs.Reading.{read-text, read-beside}
 use Rattle.buffers.proofs.Writing.{written-length}

@@ -2,8 +2,7 @@
 -- It is said here and nowhere else. pg is the bytes of a page, p a place. Assumes nothing.
 use Prim.Native.Nat.{ℕ, _+_, _*_}
 use mathlib.Core.List.{List}
-use mathlib.Core.Bool.{Bool}
-use lib.ListN.{length, getD, set, take, drop, replicate}
+use lib.ListN.{getD, set, take, drop, replicate}
 use Rattle.answers.specs.Checks.{Check, lengthCheck}
 use Rattle.buffers.specs.Written.{written}
 use Rattle.records.specs.Record.{recordLength}

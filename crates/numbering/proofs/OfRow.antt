@@ -3,12 +3,10 @@ use Prim.Native.Nat.{ℕ}
 use mathlib.Core.List.{List}
 use mathlib.Core.Path.{_≡_, sym, ap, ap₂, _∙_}
 use lib.IntN.{ℤ}
-use Rattle.counts.specs.Counts.{O}
 use Rattle.enumeration.specs.Enumeration.{Enumeration}
-use Rattle.enumeration.specs.Reading.{rangeOf}
 use Rattle.tables.specs.Row.{lengthOf, enumerationOf, shellTotal}
 use Rattle.tables.specs.Usable.{IsUsable}
-use Rattle.numbering.specs.Numbered.{enumerationIn, totalIn, indexIn, pointIn, namesIn, IsOfRow, Usable, IsFound, FoundIn}
+use Rattle.numbering.specs.Numbered.{totalIn, indexIn, pointIn, namesIn, IsOfRow, Usable, IsFound, FoundIn}
 use Rattle.numbering.specs.declared.inner.Found.{Found}
 use Rattle.numbering.specs.declared.inner.Numbering.{Numbering}
 

@@ -7,7 +7,6 @@ use native.Mathlib.Omega.{arith}
 use lib.ListN.{length}
 use Rattle.answers.specs.Checks.{firstOf, leaves}
 use Rattle.tables.proofs.PlaceChecks.{no-place, some-place}
-use Rattle.tables.specs.Table.{placesIn}
 use Rattle.records.specs.Record.{recordCheck, placeIn}
 use Rattle.layout.proofs.Cells.{set-back}
 use Rattle.layout.specs.Bounds.{InPage}

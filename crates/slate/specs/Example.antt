@@ -1,5 +1,4 @@
 -- What C is given, in numbers: counts, and takes into the page of document 01's whole case. proofs/Example.antt computes every line. Assumes nothing.
-use Prim.Native.Nat.{ℕ}
 use mathlib.Core.Path.{_≡_}
 use mathlib.Core.List.{[]}
 use lib.ListN.{take}

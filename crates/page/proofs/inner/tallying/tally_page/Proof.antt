@@ -2,13 +2,12 @@
 -- the five counts. Assumes nothing.
 use Prim.Native.Nat.{_-_}
 use mathlib.Core.List.{List}
-use mathlib.Core.Path.{_≡_, ap, _∙_}
+use mathlib.Core.Path.{ap, _∙_}
 use native.Mathlib.Omega.{arith}
 use borrow.Author.Needs.{needs}
 use Rattle.layout.specs.Layout.{cellAt}
 use Rattle.rules.specs.Judging.{judge}
 use Rattle.tables.proofs.Walking.{row-bytes}
-use Rattle.tables.specs.Row.{IsRow}
 use Rattle.page.proofs.Tallying.{Tallying, place-0, begins, ends, inside, place-fits, count-fits, its-cell, tally-12, counts-on}
 use Rattle.page.proofs.inner.tallying.tally_page.Statement.{statement}
 use Rattle.page.proofs.inner.tallying.tally_page.Tie as tie
