@@ -1,11 +1,11 @@
 -- The page rule on one cell: two records that name its place may come in either order, whatever stands in it. Refusal 12 keeps the cell, and a cell
 -- that is not refused is not refused afterwards. Assumes nothing.
 use Prim.Native.Nat.{ℕ, zero, suc}
-use mathlib.Core.Path.{_≡_, refl, sym, _∙_}
-use mathlib.Core.List.{List}
-use mathlib.Core.Bool.{Bool, true, false}
+use mathlib.Core.Path.{_≡_, refl, ap, sym, _∙_}
+use mathlib.Core.List.{List, [], _∷_}
+use mathlib.Core.Bool.{Bool, true, false, not}
 use lib.ListN.{length}
-use Rattle.answers.specs.Checks.{pick}
+use Rattle.answers.specs.Checks.{anyOf, pick}
 use Rattle.records.proofs.Same.{same-bytes, bytes-same, differ-bytes, bytes-differ}
 use Rattle.records.specs.Record.{recordLength, sameBytes}
 use Rattle.layout.specs.Layout.{Cell}
@@ -63,7 +63,7 @@ not-bad p x c named e = go (c .state) refl
     held false = refl
 
     go : (n : ℕ) → c .state ≡ n → badCell p (takeCell x c) ≡ false
-    go zero s = rw (takes-empty x c s, named) refl
+    go zero s = rw (takes-empty x c s) (ap (λ (b : Bool). anyOf (not b ∷ [])) named)
     go (suc zero) s = rw (takes-held x c s) (held (sameBytes (c .bytes) x))
     go (suc (suc n)) s = rw (takes-contested x c n s) e
 
