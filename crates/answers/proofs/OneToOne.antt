@@ -1,9 +1,11 @@
 -- Answers that say the same are the same: what was said is read back, a refusal by `refusalOf` and any call's answer by `answerOf`. A
 -- refusal begins with a number above 0, and an answer with 0, so neither is taken for the other. Assumes nothing.
-use Prim.Native.Nat.{ℕ, zero, suc}
+use Prim.Native.Nat.{ℕ, zero, suc, _≤_}
 use mathlib.Core.Path.{_≡_, refl, sym, ap, _∙_}
 use mathlib.Core.List.{List, [], _∷_}
-use lib.ListN.{getD}
+use native.Mathlib.Omega.{arith}
+use lib.Dec.{lit≤}
+use lib.ListN.{length, getD, List·getD-eq-default}
 use Rattle.answers.specs.declared.Refusal.{Refusal}
 use Rattle.answers.specs.declared.Refusal.the-variants as refusal
 use Rattle.answers.specs.declared.Verdict.{Verdict}
@@ -38,34 +40,41 @@ pub refusalOf : List ℕ → Refusal
 refusalOf [] = refusal.LengthOutside
 refusalOf (n ∷ vs) = getD (byNumber vs) n refusal.LengthOutside
 
--- The law of a refusal: it says a number above 0 and the values vs, and is read back from them.
+-- The law of a refusal: it says a number above 0 and at most two values, and is read back from them.
 pub record Said (r : Refusal) : Type 0 where
   pub before : ℕ
   pub values : List ℕ
   pub says : meaning r ≡ suc before ∷ values
   pub back : refusalOf (suc before ∷ values) ≡ r
+  pub two : length values ≤ 2
 
-says-back : {r : Refusal} (n : ℕ) (vs : List ℕ) → meaning r ≡ suc n ∷ vs → refusalOf (suc n ∷ vs) ≡ r → Said r
-says-back n vs says back = record { before = n; values = vs; says = says; back = back }
+says-back : {r : Refusal} (n : ℕ) (vs : List ℕ) → meaning r ≡ suc n ∷ vs → refusalOf (suc n ∷ vs) ≡ r → length vs ≤ 2 → Said r
+says-back n vs says back two = record { before = n; values = vs; says = says; back = back; two = two }
 
 pub said : (r : Refusal) → Said r
 unfolding refusalOf byNumber cellOf
-said refusal.LengthOutside = says-back 0 [] refl refl
-said refusal.RadiusAbove = says-back 1 [] refl refl
-said refusal.ShellTooLarge = says-back 2 [] refl refl
-said refusal.BufferLength = says-back 3 [] refl refl
-said refusal.MagnitudeSum = says-back 4 [] refl refl
-said refusal.IndexPastEnd = says-back 5 [] refl refl
-said (refusal.BadTable row) = says-back 6 (row ∷ []) refl refl
-said refusal.NoSuchPlace = says-back 7 [] refl refl
-said (refusal.UnusableCoefficient coordinate) = says-back 10 (coordinate ∷ []) refl refl
-said refusal.BadCell = says-back 11 [] refl refl
-said (refusal.BadCellAt place) = says-back 11 (place ∷ []) refl refl
-said refusal.NoSuchCoordinate = says-back 12 [] refl refl
+said refusal.LengthOutside = says-back 0 [] refl refl (lit≤ tt)
+said refusal.RadiusAbove = says-back 1 [] refl refl (lit≤ tt)
+said refusal.ShellTooLarge = says-back 2 [] refl refl (lit≤ tt)
+said refusal.BufferLength = says-back 3 [] refl refl (lit≤ tt)
+said refusal.MagnitudeSum = says-back 4 [] refl refl (lit≤ tt)
+said refusal.IndexPastEnd = says-back 5 [] refl refl (lit≤ tt)
+said (refusal.BadTable row) = says-back 6 (row ∷ []) refl refl (lit≤ tt)
+said refusal.NoSuchPlace = says-back 7 [] refl refl (lit≤ tt)
+said (refusal.UnusableCoefficient coordinate) = says-back 10 (coordinate ∷ []) refl refl (lit≤ tt)
+said refusal.BadCell = says-back 11 [] refl refl (lit≤ tt)
+said (refusal.BadCellAt place) = says-back 11 (place ∷ []) refl refl (lit≤ tt)
+said refusal.NoSuchCoordinate = says-back 12 [] refl refl (lit≤ tt)
 
 -- what can be read back is one to one
 pub one-to-one : {A : Type 0} (says : A → List ℕ) (back : List ℕ → A) → ((a : A) → back (says a) ≡ a) → (a b : A) → says a ≡ says b → a ≡ b
 one-to-one says back h a b e = sym (h a) ∙ ap back e ∙ h b
+
+-- past the number and the two values it says nothing
+pub nothing-more : (r : Refusal) (n : ℕ) → getD (meaning r) (suc (suc (suc n))) 0 ≡ 0
+nothing-more r n =
+    let s = said r in
+    ap (λ (vs : List ℕ). getD vs (suc (suc (suc n))) 0) (s .says) ∙ List·getD-eq-default (s .values) 0 {n = suc (suc n)} (omega (arith, s .two))
 
 pub meaning-one-to-one : (r r′ : Refusal) → meaning r ≡ meaning r′ → r ≡ r′
 meaning-one-to-one = one-to-one meaning refusalOf (λ r. ap refusalOf (said r .says) ∙ said r .back)

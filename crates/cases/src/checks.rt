@@ -4,10 +4,13 @@ use pairing::Checked;
 use pairing::inner::survey::Surveyed;
 use pairing::inner::survey::survey;
 use rows::inner::row;
+use rows::inner::row::row_at;
 use script::input::number;
 use script::output;
 ghost use Prim.Native.Nat.{_<_};
-ghost use Rattle.tables.specs.Row.{rowsOf};
+ghost use mathlib.Core.Path.{_≡_};
+ghost use lib.ListN.{length};
+ghost use Rattle.tables.specs.Row.{rowLength};
 
 // table, and then the table: its places, by the call check.
 pub fn check(numbers: &[u64], room: &mut [u8]) {
@@ -85,7 +88,7 @@ fn surveyed(table: &[u8], place: usize) {
     match survey(table, place) {
         Surveyed::Good { places, row } => {
             if place < places {
-                fields(table, row);
+                fields(row_at(table, row), row);
             } else {
                 output::none();
                 output::next(places as u64);
@@ -95,26 +98,26 @@ fn surveyed(table: &[u8], place: usize) {
     }
 }
 
-fn fields(table: &[u8], row: usize)
-    requires { ⌜ row < rowsOf (now table) ⌝ }
+fn fields(row: &[u8], number: usize)
+    requires { ⌜ length (now row) ≡ rowLength ⌝ }
 {
-    output::said(row as u64);
+    output::said(number as u64);
     output::colon();
-    output::next(row::length(table, row).0 as u64);
-    output::next(row::step(table, row) as u64);
-    output::next(row::places(table, row) as u64);
+    output::next(row::length(row).0 as u64);
+    output::next(row::step(row) as u64);
+    output::next(row::places(row) as u64);
     output::colon();
-    radii(table, row);
+    radii(row);
 }
 
 // The radii that are in the row.
-fn radii(table: &[u8], row: usize)
-    requires { ⌜ row < rowsOf (now table) ⌝ }
+fn radii(row: &[u8])
+    requires { ⌜ length (now row) ≡ rowLength ⌝ }
 {
     let mut n = 0;
     while n < 8 {
-        if n < row::radii(table, row) {
-            output::next(row::radius(table, row, n).0 as u64);
+        if n < row::radii(row) {
+            output::next(row::radius(row, n).0 as u64);
         }
         n += 1;
     }

@@ -72,5 +72,5 @@ pub fn coordinates(x: &[i32]) {
 }
 
 fn signed(c: i32) {
-    output::signed(c < 0, product::inner::coordinate::magnitude(c));
+    output::signed(c < 0, coordinates::inner::magnitude(c));
 }

@@ -3,3 +3,4 @@ pub mod Taking
 pub mod Collecting
 pub mod Scaled
 pub mod OneToOne
+pub mod Tallying

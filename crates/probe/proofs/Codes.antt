@@ -3,7 +3,7 @@ use Prim.Native.Nat.{ℕ, _+_, _^_}
 use mathlib.Core.Path.{_≡_, refl, sym, ap, _∙_}
 use mathlib.Core.List.{List, _∷_}
 use Rattle.answers.specs.Refusals.{meaning, numberOf}
-use Rattle.answers.proofs.OneToOne.{meaning-begins}
+use Rattle.answers.proofs.OneToOne.{said}
 use Rattle.answers.specs.declared.Refusal.{Refusal}
 use Rattle.probe.specs.Coded.{coded}
 
@@ -18,4 +18,4 @@ answer-coded n vs = refl
 
 pub refusal-coded : (r : Refusal) → 2 ^ 40 + numberOf r ≡ coded (meaning r)
 unfolding coded
-refusal-coded r = let b = meaning-begins r in rw (b .2)
+refusal-coded r = rw (said r .says)

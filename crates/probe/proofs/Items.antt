@@ -1,31 +1,18 @@
 -- Items past the end of what a call says are 0. Assumes nothing.
 use Prim.Native.Nat.{ℕ, zero, suc}
-use mathlib.Core.Path.{_≡_, refl}
+use mathlib.Core.Path.{_≡_, refl, sym}
 use mathlib.Core.List.{[], _∷_}
 use lib.ListN.{getD}
 use Rattle.answers.specs.Refusals.{meaning}
 use Rattle.answers.specs.declared.Refusal.{Refusal}
-use Rattle.answers.specs.declared.Refusal.the-variants.{LengthOutside, RadiusAbove, ShellTooLarge, BufferLength, MagnitudeSum, IndexPastEnd, BadTable, NoSuchPlace, UnusableCoefficient, BadCell, BadCellAt, NoSuchCoordinate}
+use Rattle.answers.proofs.OneToOne.{nothing-more}
 
--- a refusal has a number and one value at most
-two-items : (r : Refusal) (n : ℕ) → 0 ≡ getD (meaning r) (suc (suc n)) 0
-two-items LengthOutside n = refl
-two-items RadiusAbove n = refl
-two-items ShellTooLarge n = refl
-two-items BufferLength n = refl
-two-items MagnitudeSum n = refl
-two-items IndexPastEnd n = refl
-two-items (BadTable row) n = refl
-two-items NoSuchPlace n = refl
-two-items (UnusableCoefficient coordinate) n = refl
-two-items BadCell n = refl
-two-items (BadCellAt place) n = refl
-two-items NoSuchCoordinate n = refl
-
-pub refusal-rest : (r : Refusal) (n : ℕ) → (n ≡ 0 → ⊥) → (n ≡ 1 → ⊥) → 0 ≡ getD (meaning r) n 0
-refusal-rest r zero a b = absurd (a refl)
-refusal-rest r (suc zero) a b = absurd (b refl)
-refusal-rest r (suc (suc n)) a b = two-items r n
+-- a refusal has a number and two values at most
+pub refusal-rest : (r : Refusal) (n : ℕ) → (n ≡ 0 → ⊥) → (n ≡ 1 → ⊥) → (n ≡ 2 → ⊥) → 0 ≡ getD (meaning r) n 0
+refusal-rest r zero a b c = absurd (a refl)
+refusal-rest r (suc zero) a b c = absurd (b refl)
+refusal-rest r (suc (suc zero)) a b c = absurd (c refl)
+refusal-rest r (suc (suc (suc n))) a b c = sym (nothing-more r n)
 
 pub told-rest : (answer reason n : ℕ) → (n ≡ 1 → ⊥) → (n ≡ 2 → ⊥) → 0 ≡ getD (0 ∷ answer ∷ reason ∷ []) n 0
 told-rest answer reason zero a b = refl

@@ -3,8 +3,8 @@
 pub mod pages;
 
 use answers::Refusal;
+use answers::in_numbers;
 use answers::number;
-use answers::value;
 use counts::Length;
 use counts::Radius;
 use pairing::Checked;
@@ -83,7 +83,7 @@ fn check_value(answer: Checked) -> usize
 {
     match answer {
         Checked::Places(n) => n,
-        Checked::Refused(refusal) => value(refusal),
+        Checked::Refused(refusal) => in_numbers(refusal).1,
     }
 }
 
@@ -119,7 +119,7 @@ fn quantize_value(answer: Quantized) -> usize
 {
     match answer {
         Quantized::Written => 0,
-        Quantized::Refused(refusal) => value(refusal),
+        Quantized::Refused(refusal) => in_numbers(refusal).1,
     }
 }
 

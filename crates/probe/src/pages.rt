@@ -1,8 +1,7 @@
 // The calls of the page, exported to C for the second program alone. What a call says is a list: 0 and its values, or a refusal's number and what
 // it names. `which` picks an item of it; an item past the end is 0.
 use answers::Refusal;
-use answers::number;
-use answers::value;
+use answers::in_numbers;
 use page::Answer;
 use page::Arrival;
 use page::Reading;
@@ -13,7 +12,6 @@ ghost use mathlib.Core.Path.{_≡_};
 ghost use mathlib.Core.List.{_∷_, []};
 ghost use lib.ListN.{getD};
 ghost use Rattle.answers.specs.Refusals.{meaning};
-ghost use Rattle.enumeration.proofs.Product.{product};
 ghost use Rattle.rules.specs.Taking.{takeSays, takeLeaves, collected};
 ghost use Rattle.rules.specs.Reading.{readSays, readLeaves, coefficientSays, coefficientCarries};
 ghost use Rattle.rules.specs.Tallying.{tallySays};
@@ -24,9 +22,11 @@ ghost use Rattle.probe.specs.Coded.{positiveZero};
 fn refused(refusal: Refusal, which: usize) -> u64
     ensures { λ r. ⌜ r ≡ getD (meaning refusal) which 0 ⌝ }
 {
+    let numbers = in_numbers(refusal);
     match which {
-        0 => number(refusal) as u64,
-        1 => value(refusal) as u64,
+        0 => numbers.0 as u64,
+        1 => numbers.1 as u64,
+        2 => numbers.2 as u64,
         _ => 0,
     }
 }
@@ -156,7 +156,7 @@ pub extern "C" fn probe_read(
     out: &mut [i32],
     which: usize,
 ) -> u64
-    ensures { λ r. ⌜ (r ≡ getD (readSays product (now (table .entry)) (now (page .entry)) place (now (out .entry))) which 0) × (now (out .exit) ≡ readLeaves product (now (table .entry)) (now (page .entry)) place (now (out .entry))) ⌝ }
+    ensures { λ r. ⌜ (r ≡ getD (readSays (now (table .entry)) (now (page .entry)) place (now (out .entry))) which 0) × (now (out .exit) ≡ readLeaves (now (table .entry)) (now (page .entry)) place (now (out .entry))) ⌝ }
 {
     read_item(page::read(table, page, place, out), which)
 }
@@ -170,7 +170,7 @@ pub extern "C" fn probe_coefficient(
     coordinate: usize,
     which: usize,
 ) -> u64
-    ensures { λ r. ⌜ r ≡ getD (coefficientSays product (now (table .entry)) (now (page .entry)) place coordinate) which 0 ⌝ }
+    ensures { λ r. ⌜ r ≡ getD (coefficientSays (now (table .entry)) (now (page .entry)) place coordinate) which 0 ⌝ }
 {
     coefficient_item(page::coefficient(table, page, place, coordinate), which)
 }
@@ -183,7 +183,7 @@ pub extern "C" fn probe_coefficient_value(
     place: usize,
     coordinate: usize,
 ) -> f32
-    ensures { λ v. ⌜ v ≡ getD (coefficientCarries product (now (table .entry)) (now (page .entry)) place coordinate) 0 positiveZero ⌝ }
+    ensures { λ v. ⌜ v ≡ getD (coefficientCarries (now (table .entry)) (now (page .entry)) place coordinate) 0 positiveZero ⌝ }
 {
     coefficient_value(page::coefficient(table, page, place, coordinate))
 }
@@ -191,7 +191,7 @@ pub extern "C" fn probe_coefficient_value(
 // The call tally.
 #[no_mangle]
 pub extern "C" fn probe_tally(table: &[u8], page: &[u8], which: usize) -> u64
-    ensures { λ r. ⌜ r ≡ getD (tallySays product (now (table .entry)) (now (page .entry))) which 0 ⌝ }
+    ensures { λ r. ⌜ r ≡ getD (tallySays (now (table .entry)) (now (page .entry))) which 0 ⌝ }
 {
     tally_item(page::tally(table, page), which)
 }

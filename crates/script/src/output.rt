@@ -58,8 +58,9 @@ pub fn answered(n: u64) {
     next(n);
 }
 
-// What a refused call says: the number, and the value that it names, or 0.
+// What a refused call says: the number, and the first value that it names, or 0.
 pub fn refused(refusal: Refusal) {
-    said(answers::number(refusal) as u64);
-    next(answers::value(refusal) as u64);
+    let numbers = answers::in_numbers(refusal);
+    said(numbers.0 as u64);
+    next(numbers.1 as u64);
 }

@@ -1,14 +1,14 @@
 -- Every line of the example holds by computation. Assumes nothing.
 use mathlib.Core.Path.{refl}
 use Rattle.counts.specs.Counts.{N}
-use Rattle.tables.specs.Row.{byteOf, badRadius, badRadii, badRow}
-use Rattle.tables.specs.Table.{placesBefore, rowsBefore}
-use Rattle.rules.specs.Cell.{cell}
+use Rattle.tables.specs.Row.{byteOf, enumerationOf, badRadius, badRadii, badRow}
+use Rattle.tables.specs.Table.{rowAt, placesBefore, rowsBefore}
+use Rattle.layout.specs.Layout.{stateAt, recordAt}
 use Rattle.rules.specs.Taking.{badCell}
 use Rattle.slate.specs.Example.{Example}
 
 pub example : Example
-unfolding N byteOf badRadius badRadii badRow placesBefore rowsBefore cell badCell
+unfolding N byteOf enumerationOf badRadius badRadii badRow rowAt placesBefore rowsBefore stateAt recordAt badCell
 example =
     record {
       count-3-2 = refl;

@@ -10,7 +10,7 @@ use Rattle.rules.specs.Taking.{takeSays}
 
 -- "There the count gives 0 for a refusal", and else N
 abbrev pub countGives : ℕ → ℕ → ℕ
-countGives l k = leaves (shellChecks l k) (N l k) 0
+countGives l k = leaves (shellChecks l k (N l k)) (N l k) 0
 
 -- "taking a record gives 0 when it is taken and otherwise the refusal number, without the row": the number that the call take says first
 abbrev pub takeGives : List ℕ → List ℕ → List ℕ → ℕ

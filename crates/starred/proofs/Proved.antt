@@ -6,17 +6,17 @@ use Rattle.enumeration.specs.Product.{patternIndex, shapeOffset, shapeIndex, si
 use Rattle.enumeration.specs.Reading.{rangeFrom, rangeOf, patternOf, firstMagnitude, shapeLeft, shapeOf, signsOf, pointFrom, pointIn, productPoint}
 use Rattle.floats.specs.Units.{ofPattern, unitsOf, unusableCoefficient, negative}
 use Rattle.floats.specs.Nearest.{nearestWhole}
-use Rattle.tables.specs.Row.{byteOf, badRadius, badRadii, badRow}
-use Rattle.tables.specs.Table.{placesBefore, rowsBefore}
+use Rattle.tables.specs.Row.{byteOf, enumerationOf, badRadius, badRadii, badRow}
+use Rattle.tables.specs.Table.{rowAt, placesBefore, rowsBefore}
 use Rattle.shares.specs.Best.{firstBest}
-use Rattle.coefficients.specs.Radius.{chosenNumber}
+use Rattle.coefficients.specs.Radius.{chosenRadiusNumber}
 use Rattle.shares.specs.Shares.{largest, give, shared}
 use Rattle.records.specs.Record.{recordOf}
 use lib.Ieee.{toBits, lt}
 use Rattle.starred.specs.Table.{Table}
 
 pub proved : Table
-unfolding N binomial D S B sumAfter rangeSize rangeStart width bitsFrom patternIndex shapeOffset shapeIndex signIndex weigh productIndex rangeFrom rangeOf patternOf firstMagnitude shapeLeft shapeOf signsOf pointFrom pointIn productPoint byteOf badRadius badRadii badRow placesBefore rowsBefore ofPattern unitsOf unusableCoefficient negative nearestWhole toBits lt firstBest chosenNumber largest give shared recordOf
+unfolding N binomial D S B sumAfter rangeSize rangeStart width bitsFrom patternIndex shapeOffset shapeIndex signIndex weigh productIndex rangeFrom rangeOf patternOf firstMagnitude shapeLeft shapeOf signsOf pointFrom pointIn productPoint byteOf enumerationOf badRadius badRadii badRow rowAt placesBefore rowsBefore ofPattern unitsOf unusableCoefficient negative nearestWhole toBits lt firstBest chosenRadiusNumber largest give shared recordOf
 proved =
     record {
       star-index-0 = refl;

@@ -13,6 +13,7 @@ use Rattle.counts.specs.Width.{width}
 use Rattle.shell.specs.Shell.{countSays}
 use Rattle.enumeration.specs.Example.{triple}
 use Rattle.tables.specs.Example.{wholeCase, twoRows}
+use Rattle.tables.specs.Table.{rowAt}
 use Rattle.points.specs.Calls.{indexSays, pointSays, pointLeaves}
 use Rattle.coding.specs.Coded.{pointFor}
 use Rattle.quantizer.specs.Calls.{quantizeSays, quantizeLeaves}
@@ -85,7 +86,7 @@ pub record Table : Type 0 where
   -- 32,768 is refused 11, and the first coordinate at fault is named
   pub says-beyond : quantizeSays wholeCase 1 (fin true 0 (pos 0) ∷ fin false 1 (pos 15) ∷ nan ∷ []) held ≡ 11 ∷ 1 ∷ []
   -- * row of length 3, radii 0 and 2, step 256: (1.5, 0, -0.75) gives (1,0,-1)
-  pub star-quantized : pointFor wholeCase 0 vector ≡ triple (pos 1) (pos 0) (negℤ (pos 1))
+  pub star-quantized : pointFor (rowAt wholeCase 0) vector ≡ triple (pos 1) (pos 0) (negℤ (pos 1))
   pub says-written : quantizeSays wholeCase 0 vector held ≡ 0 ∷ []
   pub record-0 : quantizeLeaves wholeCase 0 vector held ≡ 0 ∷ 0 ∷ 0 ∷ 1 ∷ 0 ∷ 0 ∷ 0 ∷ 5 ∷ []
   pub record-1 : quantizeLeaves wholeCase 1 vector held ≡ 0 ∷ 1 ∷ 0 ∷ 1 ∷ 0 ∷ 0 ∷ 0 ∷ 5 ∷ []
@@ -102,12 +103,12 @@ pub record Table : Type 0 where
   pub quantize-11 : quantizeSays wholeCase 0 (nan ∷ nan ∷ nan ∷ []) held ≡ 11 ∷ 0 ∷ []
   pub refused-kept : quantizeLeaves wholeCase 0 (nan ∷ nan ∷ nan ∷ []) held ≡ held
   -- * a sum of 256 ties between radii 0 and 2: radius 0
-  pub star-tie : chosenRadius wholeCase 0 256 ≡ 0
-  pub past-the-tie : chosenRadius wholeCase 0 257 ≡ 2
+  pub star-tie : chosenRadius (rowAt wholeCase 0) 256 ≡ 0
+  pub past-the-tie : chosenRadius (rowAt wholeCase 0) 257 ≡ 2
   -- with a step of 775: half of it is 387.5; 14 x 775 is 10,850; beyond the last radius there is none
-  pub below-half : chosenRadius twoRows 1 387 ≡ 0
-  pub above-half : chosenRadius twoRows 1 388 ≡ 1
-  pub radius-14 : chosenRadius twoRows 1 10851 ≡ 14
-  pub last-radius : chosenRadius twoRows 1 134217728 ≡ 32
+  pub below-half : chosenRadius (rowAt twoRows 1) 387 ≡ 0
+  pub above-half : chosenRadius (rowAt twoRows 1) 388 ≡ 1
+  pub radius-14 : chosenRadius (rowAt twoRows 1) 10851 ≡ 14
+  pub last-radius : chosenRadius (rowAt twoRows 1) 134217728 ≡ 32
   -- length 2, radius 1, two equal positive coefficients: (1,0)
   pub equal-remainders : pointOf 1 (fin false 1 (negsuc 0) ∷ fin false 1 (negsuc 0) ∷ []) ≡ pos 1 ∷ pos 0 ∷ []

@@ -1,48 +1,75 @@
+-- `page::coefficient` says what the call coefficient is to say and carries the value that it is to carry: a refusal of the checks of the table, the place
+-- and the page; or else what is said and carried in the row of the place. Assumes nothing.
+use Prim.Native.Nat.{ℕ}
+use mathlib.Core.List.{List, []}
+use lib.Ieee.{Float}
 use borrow.Author.Needs.{needs}
+use Rattle.answers.specs.Checks.{Check}
+use Rattle.layout.specs.Layout.{cellAt}
+use Rattle.pairing.proofs.Surveys.{survey-says, survey-leaves, number-in, row-surveyed, place-says, place-leaves}
+use Rattle.places.proofs.Opening.{look-in-page}
+use Rattle.rules.proofs.Pages.{look-place}
+use Rattle.rules.specs.Judging.{judge, judgeAt}
+use Rattle.rules.specs.Reading as rules
+use Rattle.rules.specs.Reading.{coefficientRest, carriedBy}
+use Rattle.rules.specs.Taking.{lookChecks}
+use Rattle.tables.specs.Table.{rowFor}
+use Rattle.page.proofs.Surveyed.{look-found}
 use Rattle.page.proofs.coefficient.Statement.{statement}
 use Rattle.page.proofs.coefficient.Tie as tie
-use Rattle.page.proofs.coefficient.Reads as reads
-use Rattle.page.proofs.coefficient.Lts as lts
-use Rattle.page.proofs.inner.reading.coefficient_at.Reads as coefficient-at-reads
-use Rattle.places.proofs.inner.opening.survey_look.Reads as survey-look-reads
-use Rattle.rows.proofs.inner.row.row_at.Reads as row-at-reads
 
--- src/lib.rt:106:11
-survey-look-requires : tie.Need-survey-look-requires
-survey-look-requires c κs = search needs
-
--- src/lib.rt:107:26
-enum-known-places : tie.Need-enum-known-places
-enum-known-places c = search needs
-
--- src/lib.rt:108:13
 row-at-requires : tie.Need-row-at-requires
-row-at-requires c κs = ?
+row-at-requires c κs =
+    let a = c .before .before .before .before .before .before .args in
+    let t = a .table .now in
+    let pg = a .page .now in
+    let found = look-found t pg (a .place) (c .before .before .before .survey-look .ensures) (c .before .places .given .1) in
+    number-in found (look-place t pg (a .place) (found .passes))
 
--- src/lib.rt:107:43
 coefficient-at-requires : tie.Need-coefficient-at-requires
-coefficient-at-requires c κs = ?
+coefficient-at-requires c κs =
+    let a = c .before .before .before .before .before .before .before .args in
+    let t = a .table .now in
+    let pg = a .page .now in
+    let found = look-found t pg (a .place) (c .before .before .before .before .survey-look .ensures) (c .before .before .places .given .1) in
+    (row-surveyed found (look-place t pg (a .place) (found .passes)) (c .row-at .ensures), look-in-page t pg (a .place) found)
 
--- src/lib.rt:115:23
-enum-known-refusal : tie.Need-enum-known-refusal
-enum-known-refusal c = search needs
-
--- src/lib.rt:103:1
 returns : tie.Need-returns
-returns c = ?
+returns c =
+    let a = c .before .before .before .before .before .before .before .before .args in
+    let t = a .table .now in
+    let pg = a .page .now in
+    let p = a .place in
+    let i = a .coordinate in
+    let found = look-found t pg p (c .before .before .before .before .before .survey-look .ensures) (c .before .before .before .places .given .1) in
+    let placed = look-place t pg p (found .passes) in
+    let rest : ℕ → List ℕ → List Check = λ r row. coefficientRest row pg p i in
+    let tells : ℕ → List ℕ → List ℕ = λ r row. rules.told (judge row r (cellAt pg p)) in
+    let carries : ℕ → List ℕ → List Float = λ r row. carriedBy row (judge row r (cellAt pg p)) i in
+    let lent = c .before .row-at .ensures in
+    let did = c .coefficient-at .ensures in
+    (place-says found placed lent rest tells (did .0), place-leaves found placed lent rest carries [] (did .1))
 
--- src/lib.rt:103:1
 returns-2 : tie.Need-returns-2
-returns-2 c = ?
+returns-2 c =
+    let a = c .before .before .before .before .before .before .args in
+    let t = a .table .now in
+    let pg = a .page .now in
+    let p = a .place in
+    let says = c .before .before .before .survey-look .ensures in
+    let told = c .before .refusal .given .1 in
+    let rest = coefficientRest (rowFor t p) pg p (a .coordinate) in
+    let carries = carriedBy (rowFor t p) (judgeAt t pg p) (a .coordinate) in
+    (survey-says (lookChecks t pg p) t p says told rest (rules.told (judgeAt t pg p)), survey-leaves (lookChecks t pg p) t p says told rest carries [])
 
 pub coefficient-spec : {M : Type 1} → statement M
 coefficient-spec =
     tie.close
     (tie.spec
-    survey-look-requires
-    enum-known-places
+    (λ c κs. search needs)
+    (λ c. search needs)
     row-at-requires
     coefficient-at-requires
-    enum-known-refusal
+    (λ c. search needs)
     returns
     returns-2)

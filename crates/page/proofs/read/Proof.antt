@@ -1,53 +1,76 @@
+-- `page::read` says what the call read is to say and leaves what it is to leave: a refusal of the checks of the table, the place and the page, and the
+-- buffer as it was; or else what is said and left in the row of the place. Assumes nothing.
+use Prim.Native.Nat.{ℕ}
+use mathlib.Core.List.{List}
+use lib.IntN.{ℤ}
+use lib.ListN.{length}
 use borrow.Author.Needs.{needs}
+use Rattle.answers.specs.Checks.{Check}
+use Rattle.layout.specs.Layout.{cellAt}
+use Rattle.pairing.proofs.Surveys.{survey-says, survey-leaves, number-in, row-surveyed, place-says, place-leaves}
+use Rattle.places.proofs.Opening.{look-in-page}
+use Rattle.rules.proofs.Pages.{look-place}
+use Rattle.rules.specs.Judging.{judge, judgeAt, shown}
+use Rattle.rules.specs.Reading as rules
+use Rattle.rules.specs.Reading.{readRest, pointAt}
+use Rattle.rules.specs.Taking.{lookChecks}
+use Rattle.tables.specs.Table.{rowFor}
+use Rattle.page.proofs.Surveyed.{look-found}
 use Rattle.page.proofs.read.Statement.{statement}
 use Rattle.page.proofs.read.Tie as tie
-use Rattle.page.proofs.read.Reads as reads
-use Rattle.page.proofs.read.Lts as lts
-use Rattle.page.proofs.inner.reading.read_at.Reads as read-at-reads
-use Rattle.places.proofs.inner.opening.survey_look.Reads as survey-look-reads
-use Rattle.rows.proofs.inner.row.row_at.Reads as row-at-reads
 
--- src/lib.rt:94:11
-survey-look-requires : tie.Need-survey-look-requires
-survey-look-requires c κs = search needs
-
--- src/lib.rt:95:26
-enum-known-places : tie.Need-enum-known-places
-enum-known-places c = search needs
-
--- src/lib.rt:96:21
 row-at-requires : tie.Need-row-at-requires
-row-at-requires c κs = ?
+row-at-requires c κs =
+    let a = c .before .before .before .before .before .before .args in
+    let t = a .table .now in
+    let pg = a .page .now in
+    let found = look-found t pg (a .place) (c .before .before .before .survey-look .ensures) (c .before .places .given .1) in
+    number-in found (look-place t pg (a .place) (found .passes))
 
--- src/lib.rt:96:13
 read-at-requires : tie.Need-read-at-requires
-read-at-requires c κs = ?
+read-at-requires c κs =
+    let a = c .before .before .before .before .before .before .before .before .args in
+    let t = a .table .now in
+    let pg = a .page .now in
+    let found = look-found t pg (a .place) (c .before .before .before .before .before .survey-look .ensures) (c .before .before .before .places .given .1) in
+    (row-surveyed found (look-place t pg (a .place) (found .passes)) (c .before .row-at .ensures), look-in-page t pg (a .place) found)
 
--- src/lib.rt:98:23
-enum-known-refusal : tie.Need-enum-known-refusal
-enum-known-refusal c = search needs
-
--- src/lib.rt:91:1
-same-length : tie.Need-same-length
-same-length c = search needs
-
--- src/lib.rt:91:1
 returns : tie.Need-returns
-returns c = ?
+returns c =
+    let a = c .before .before .before .before .before .before .before .before .before .before .args in
+    let t = a .table .now in
+    let pg = a .page .now in
+    let p = a .place in
+    let held = a .out .now in
+    let found = look-found t pg p (c .before .before .before .before .before .before .before .survey-look .ensures) (c .before .before .before .before .before .places .given .1) in
+    let placed = look-place t pg p (found .passes) in
+    let rest : ℕ → List ℕ → List Check = λ r row. readRest row pg p (length held) in
+    let tells : ℕ → List ℕ → List ℕ = λ r row. rules.told (judge row r (cellAt pg p)) in
+    let shows : ℕ → List ℕ → List ℤ = λ r row. shown row (judge row r (cellAt pg p)) in
+    let lent = c .before .before .before .row-at .ensures in
+    let did = c .before .read-at .ensures in
+    (place-says found placed lent rest tells (did .0), place-leaves found placed lent rest shows held (did .1))
 
--- src/lib.rt:91:1
 returns-2 : tie.Need-returns-2
-returns-2 c = ?
+returns-2 c =
+    let a = c .before .before .before .before .before .before .args in
+    let t = a .table .now in
+    let pg = a .page .now in
+    let p = a .place in
+    let says = c .before .before .before .survey-look .ensures in
+    let told = c .before .refusal .given .1 in
+    let rest = readRest (rowFor t p) pg p (length (a .out .now)) in
+    (survey-says (lookChecks t pg p) t p says told rest (rules.told (judgeAt t pg p)), survey-leaves (lookChecks t pg p) t p says told rest (pointAt t pg p) (a .out .now))
 
 pub read-spec : {M : Type 1} → statement M
 read-spec =
     tie.close
     (tie.spec
-    survey-look-requires
-    enum-known-places
+    (λ c κs. search needs)
+    (λ c. search needs)
     row-at-requires
     read-at-requires
-    enum-known-refusal
-    same-length
+    (λ c. search needs)
+    (λ c. search needs)
     returns
     returns-2)

@@ -5,10 +5,10 @@ use Rattle.cases.proofs.checks.radii.Statement.{statement}
 use Rattle.cases.proofs.checks.radii.Tie as tie
 
 abbrev Inv-loop : tie.InvT-loop
-Inv-loop table row n₀ n = Unit {0}
+Inv-loop row n₀ n = Unit {0}
 
 abbrev μ-loop : tie.MeasureT-loop
-μ-loop table row n₀ n = 8 - n
+μ-loop row n₀ n = 8 - n
 
 pub radii-spec : {M : Type 1} → statement M
 radii-spec =

@@ -5,14 +5,19 @@ use Rattle.probe.proofs.pages.refused.Statement.{statement}
 use Rattle.probe.proofs.pages.refused.Tie as tie
 
 returns : tie.Need-returns
-returns c = rw (c .before .match .keys1) (c .number .ensures)
+returns c = rw (c .before .match .keys1) (c .before .before .in-numbers .ensures .0)
 
 returns-2 : tie.Need-returns-2
-returns-2 c = rw (c .before .match .keys2) (c .value .ensures)
+returns-2 c = rw (c .match .keys2) (c .before .in-numbers .ensures .1)
 
 returns-3 : tie.Need-returns-3
-returns-3 c = refusal-rest (c .before .args .refusal) (c .before .args .which) (c .match .rest .0 .1) (c .match .rest .1)
+returns-3 c = rw (c .match .keys3) (c .before .in-numbers .ensures .2)
+
+returns-4 : tie.Need-returns-4
+returns-4 c =
+    let a = c .before .before .args in
+    refusal-rest (a .refusal) (a .which) (c .match .rest .0 .0 .1) (c .match .rest .0 .1) (c .match .rest .1)
 
 pub refused-spec : {M : Type 1} → statement M
 refused-spec =
-    tie.close (tie.spec (λ c κs. search needs) (λ c. search needs) (λ c κs. search needs) returns returns-2 returns-3)
+    tie.close (tie.spec (λ c κs. search needs) (λ c. search needs) returns returns-2 returns-3 returns-4)

@@ -1,59 +1,61 @@
+-- `page::inner::reading::coefficient_at` says and carries what the call coefficient is to say and carry in the row of a place: refusals 13 and 12; or the
+-- answer of the coefficient, with its value. Assumes nothing.
+use Prim.Native.Nat.{ℕ}
+use mathlib.Core.Path.{refl, ap, _∙_}
+use native.Mathlib.Omega.{arith}
 use borrow.Author.Needs.{needs}
+use borrow.Author.Tests.{le-leb, lt-leb}
+use Rattle.layout.specs.Layout.{cellAt}
+use Rattle.rules.proofs.Shows.{judge-shows}
+use Rattle.rules.specs.Reading.{told, carried, carriedBy}
+use Rattle.rules.specs.declared.Judged.{Judged}
+use Rattle.tables.proofs.GoodRow.{row-lawful, row-full}
+use Rattle.tables.specs.Row.{lengthOf}
 use Rattle.page.proofs.inner.reading.coefficient_at.Statement.{statement}
 use Rattle.page.proofs.inner.reading.coefficient_at.Tie as tie
-use Rattle.page.proofs.inner.reading.coefficient_at.Reads as reads
-use Rattle.page.proofs.inner.reading.coefficient_at.Lts as lts
-use Rattle.page.proofs.inner.reading.value_of.Reads as value-of-reads
-use Rattle.page.proofs.inner.reading.valued.Reads as valued-reads
-use Rattle.places.proofs.inner.looking.look.Reads as look-reads
-use Rattle.rows.proofs.inner.row.length.Reads as length-reads
 
--- src/inner/reading.rt:127:8
-length-requires : tie.Need-length-requires
-length-requires c κs = search needs
-
--- src/inner/reading.rt:128:9
 returns : tie.Need-returns
-returns c = ?
+returns c =
+    let a = c .before .before .before .before .before .args in
+    rw (le-leb (lengthOf (a .row .now)) (a .coordinate) (omega (arith, c .before .before .length .ensures))) (refl, refl)
 
--- src/inner/reading.rt:130:11
-look-requires : tie.Need-look-requires
-look-requires c κs = search needs
-
--- src/inner/reading.rt:131:40
-enum-told : tie.Need-enum-told
-enum-told c = search needs
-
--- src/inner/reading.rt:132:20
-enum-known-seen : tie.Need-enum-known-seen
-enum-known-seen c = search needs
-
--- src/inner/reading.rt:134:45
 value-of-requires : tie.Need-value-of-requires
-value-of-requires c κs = ?
+value-of-requires c κs =
+    let a = c .before .before .before .before .before .before .before .before .before in
+    let row = a .args .row .now in
+    let sees = (rw (c .before .seen .given .1) at (c .before .before .before .look .ensures)) .1 in
+    let cell = cellAt (a .args .page .now) (a .args .place) in
+    let shows = judge-shows row (row-lawful row) (row-full row) (a .pre .0 .row-good) (a .args .number) cell in
+    (a .pre .0, rw (sees .is-judged) shows, sees .handed, omega (arith, c .before .before .before .before .before .before .length .ensures))
 
--- src/inner/reading.rt:134:30
-valued-requires : tie.Need-valued-requires
-valued-requires c κs = search needs
-
--- src/inner/reading.rt:115:1
 returns-2 : tie.Need-returns-2
-returns-2 c = ?
+returns-2 c =
+    let a = c .before .before .before .before .before .before .before .before .args in
+    let inside = lt-leb (lengthOf (a .row .now)) (a .coordinate) (omega (arith, c .before .before .before .before .before .length .ensures)) in
+    let bad = rw (c .enum-told .given .1) at (c .before .before .look .ensures) in
+    rw (inside, bad) (refl, refl)
 
--- src/inner/reading.rt:115:1
 returns-3 : tie.Need-returns-3
-returns-3 c = ?
+returns-3 c =
+    let a = c .before .before .before .before .before .before .before .before .before .before .before .args in
+    let row = a .row .now in
+    let inside = lt-leb (lengthOf row) (a .coordinate) (omega (arith, c .before .before .before .before .before .before .before .before .length .ensures)) in
+    let seen = rw (c .before .before .before .seen .given .1) at (c .before .before .before .before .before .look .ensures) in
+    let same = seen .1 .is-judged in
+    let j = c .before .before .before .seen .given .0 .0 .judged in
+    let did = c .valued .ensures in
+    rw (inside, seen .0) (did .0 ∙ ap told same, did .1 ∙ ap (carried j) (c .before .value-of .ensures) ∙ ap (λ (j : Judged). carriedBy row j (a .coordinate)) same)
 
 pub coefficient-at-spec : {M : Type 1} → statement M
 coefficient-at-spec =
     tie.close
     (tie.spec
-    length-requires
+    (λ c κs. search needs)
     returns
-    look-requires
-    enum-told
-    enum-known-seen
+    (λ c κs. search needs)
+    (λ c. search needs)
+    (λ c. search needs)
     value-of-requires
-    valued-requires
+    (λ c κs. search needs)
     returns-2
     returns-3)

@@ -1,64 +1,59 @@
+-- `page::inner::reading::read_at` says and leaves what the call read is to say and leave in the row of a place: refusals 4 and 12, and the buffer as it was;
+-- or the answer of the place, and what it shows. Assumes nothing.
+use mathlib.Core.Path.{refl, sym, ap, _∙_}
+use lib.ListN.{length}
 use borrow.Author.Needs.{needs}
+use borrow.Author.Tests.{eq-eqb, ne-eqb}
+use Rattle.layout.specs.Layout.{cellAt}
+use Rattle.rules.proofs.Shows.{judge-shows}
+use Rattle.rules.specs.Judging.{shown}
+use Rattle.rules.specs.Reading.{told}
+use Rattle.tables.proofs.GoodRow.{row-lawful, row-full}
+use Rattle.tables.specs.Row.{lengthOf}
 use Rattle.page.proofs.inner.reading.read_at.Statement.{statement}
 use Rattle.page.proofs.inner.reading.read_at.Tie as tie
-use Rattle.page.proofs.inner.reading.read_at.Reads as reads
-use Rattle.page.proofs.inner.reading.read_at.Lts as lts
-use Rattle.page.proofs.inner.reading.answer.Reads as answer-reads
-use Rattle.places.proofs.inner.looking.look.Reads as look-reads
-use Rattle.places.proofs.inner.showing.show.Reads as show-reads
-use Rattle.rows.proofs.inner.row.length.Reads as length-reads
 
--- src/inner/reading.rt:62:21
-length-requires : tie.Need-length-requires
-length-requires c κs = search needs
-
--- src/inner/reading.rt:63:9
 returns : tie.Need-returns
-returns c = ?
+returns c =
+    let a = c .before .before .before .before .before .args in
+    rw (ne-eqb (length (a .out .now)) (lengthOf (a .row .now)) (λ e. c .if1 .taken (e ∙ sym (c .before .before .length .ensures)))) (refl, refl)
 
--- src/inner/reading.rt:65:11
-look-requires : tie.Need-look-requires
-look-requires c κs = search needs
-
--- src/inner/reading.rt:66:41
-enum-told : tie.Need-enum-told
-enum-told c = search needs
-
--- src/inner/reading.rt:67:20
-enum-known-seen : tie.Need-enum-known-seen
-enum-known-seen c = search needs
-
--- src/inner/reading.rt:68:13
 show-requires : tie.Need-show-requires
-show-requires c κs = ?
+show-requires c κs =
+    let a = c .before .before .before .before .before .before .before .before .before .before in
+    let row = a .args .row .now in
+    let sees = (rw (c .before .before .seen .given .1) at (c .before .before .before .before .look .ensures)) .1 in
+    let cell = cellAt (a .args .page .now) (a .args .place) in
+    let shows = judge-shows row (row-lawful row) (row-full row) (a .pre .0 .row-good) (a .args .number) cell in
+    (a .pre .0, rw (sees .is-judged) shows, sees .handed, c .before .before .before .before .before .if1 .left ∙ c .before .before .before .before .before .before .before .length .ensures)
 
--- src/inner/reading.rt:70:31
-answer-requires : tie.Need-answer-requires
-answer-requires c κs = search needs
-
--- src/inner/reading.rt:50:1
 returns-2 : tie.Need-returns-2
-returns-2 c = ?
+returns-2 c =
+    let a = c .before .before .before .before .before .before .before .before .args in
+    let long = c .before .before .before .if1 .left ∙ c .before .before .before .before .before .length .ensures in
+    let bad = rw (c .enum-told .given .1) at (c .before .before .look .ensures) in
+    rw (eq-eqb (length (a .out .now)) (lengthOf (a .row .now)) long, bad) (refl, refl)
 
--- src/inner/reading.rt:50:1
-same-length : tie.Need-same-length
-same-length c = search needs
-
--- src/inner/reading.rt:50:1
 returns-3 : tie.Need-returns-3
-returns-3 c = ?
+returns-3 c =
+    let a = c .before .before .before .before .before .before .before .before .before .before .before .before .before .args in
+    let row = a .row .now in
+    let long = c .before .before .before .before .before .before .before .before .if1 .left ∙ c .before .before .before .before .before .before .before .before .before .before .length .ensures in
+    let seen = rw (c .before .before .before .before .before .seen .given .1) at (c .before .before .before .before .before .before .before .look .ensures) in
+    let same = seen .1 .is-judged in
+    rw (eq-eqb (length (a .out .now)) (lengthOf row) long, seen .0) (c .answer .ensures ∙ ap told same, c .before .before .show .ensures ∙ ap (shown row) same)
 
 pub read-at-spec : {M : Type 1} → statement M
 read-at-spec =
     tie.close
     (tie.spec
-    length-requires
+    (λ c κs. search needs)
     returns
-    look-requires
-    enum-told
-    enum-known-seen
+    (λ c κs. search needs)
+    (λ c. search needs)
+    (λ c. search needs)
     show-requires
-    answer-requires
+    (λ c κs. search needs)
     returns-2
-    same-length
+    (λ c. search needs)
     returns-3)

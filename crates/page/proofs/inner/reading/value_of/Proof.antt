@@ -1,59 +1,57 @@
+-- `page::inner::reading::value_of` writes what is shown into room of its own, reads the coordinate and scales it. Assumes nothing.
+use Prim.Native.Nat.{ℕ}
+use mathlib.Core.Path.{sym, ap, ap₂, _∙_}
+use native.Mathlib.Omega.{arith}
+use lib.IntN.{ℤ, pos, natAbs, _*ℤ_}
+use lib.ListN.{drop, replicate}
+use lib.Seq.{length-take-le}
 use borrow.Author.Needs.{needs}
+use Rattle.floats.specs.Exact.{over256}
+use Rattle.tables.proofs.GoodRow.{row-lawful}
+use Rattle.page.proofs.Scaled.{small, coordinate-read}
 use Rattle.page.proofs.inner.reading.value_of.Statement.{statement}
 use Rattle.page.proofs.inner.reading.value_of.Tie as tie
-use Rattle.page.proofs.inner.reading.value_of.Reads as reads
-use Rattle.page.proofs.inner.reading.value_of.Lts as lts
-use Rattle.page.proofs.inner.reading.scaled.Reads as scaled-reads
-use Rattle.places.proofs.inner.showing.show.Reads as show-reads
-use Rattle.rows.proofs.inner.row.length.Reads as length-reads
-use Rattle.rows.proofs.inner.row.step.Reads as step-reads
 
--- src/inner/reading.rt:87:13
-length-requires : tie.Need-length-requires
-length-requires c κs = search needs
-
--- src/inner/reading.rt:89:21
-array-borrow-prefix-point : tie.Need-array-borrow-prefix-point
-array-borrow-prefix-point c = search needs
-
--- src/inner/reading.rt:89:21
 slice-aggregate-show : tie.Need-slice-aggregate-show
-slice-aggregate-show c = ?
+slice-aggregate-show c =
+    sym (length-take-le (c .before .length .result .0) (replicate 16 (pos 0)) (omega (arith, c .before .length .ensures, c .before .before .before .pre .0 .row-good .length-to)))
 
--- src/inner/reading.rt:89:5
 show-requires : tie.Need-show-requires
-show-requires c κs = ?
+show-requires c κs =
+    let p = c .before .before .before .pre in
+    let long = length-take-le (c .before .length .result .0) (replicate 16 (pos 0)) (omega (arith, c .before .length .ensures, p .0 .row-good .length-to)) in
+    (p .0, p .1, p .2, long ∙ c .before .length .ensures)
 
--- src/inner/reading.rt:90:13
-mul-c : tie.Need-mul-c
-mul-c c = search needs
-
--- src/inner/reading.rt:90:13
-array-copy-out-c : tie.Need-array-copy-out-c
-array-copy-out-c c = search needs
-
--- src/inner/reading.rt:91:15
-step-requires : tie.Need-step-requires
-step-requires c κs = search needs
-
--- src/inner/reading.rt:91:5
 scaled-requires : tie.Need-scaled-requires
-scaled-requires c κs = ?
+scaled-requires c κs =
+    let a = c .before .before .before .before .before .before .before in
+    let row = a .args .row .now in
+    let j = a .args .seen .judged in
+    let i = a .args .coordinate in
+    let same =
+    coordinate-read row (row-lawful row) j (a .pre .1) i (a .pre .3) (c .before .before .before .show .last .1 .1 .0) (drop (c .before .before .before .before .before .length .result .0) (replicate 16 (pos 0))) (c .before .before .before .show .ensures) in
+    (omega (arith, ap natAbs same, small row (row-lawful row) j (a .pre .1) i), c .step .ensures .1)
 
--- src/inner/reading.rt:83:1
 returns : tie.Need-returns
-returns c = ?
+returns c =
+    let a = c .before .before .before .before .before .before .before .before in
+    let row = a .args .row .now in
+    let j = a .args .seen .judged in
+    let i = a .args .coordinate in
+    let same =
+    coordinate-read row (row-lawful row) j (a .pre .1) i (a .pre .3) (c .before .before .before .before .show .last .1 .1 .0) (drop (c .before .before .before .before .before .before .length .result .0) (replicate 16 (pos 0))) (c .before .before .before .before .show .ensures) in
+    c .scaled .ensures ∙ ap₂ (λ (z : ℤ) (s : ℕ). over256 (z *ℤ pos s)) same (c .before .step .ensures .0)
 
 pub value-of-spec : {M : Type 1} → statement M
 value-of-spec =
     tie.close
     (tie.spec
-    length-requires
-    array-borrow-prefix-point
+    (λ c κs. search needs)
+    (λ c. search needs)
     slice-aggregate-show
     show-requires
-    mul-c
-    array-copy-out-c
-    step-requires
+    (λ c. search needs)
+    (λ c. search needs)
+    (λ c κs. search needs)
     scaled-requires
     returns)

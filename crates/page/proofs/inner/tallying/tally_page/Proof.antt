@@ -1,106 +1,58 @@
+-- `page::inner::tallying::tally_page` says what the call tally is to say behind the checks of the table and the page: refusal 12, with the lowest place; or
+-- the five counts. Assumes nothing.
+use Prim.Native.Nat.{_-_}
+use mathlib.Core.List.{List}
+use mathlib.Core.Path.{_≡_, ap, _∙_}
+use native.Mathlib.Omega.{arith}
+use borrow.Author.Needs.{needs}
+use Rattle.layout.specs.Layout.{cellAt}
+use Rattle.rules.specs.Judging.{judge}
+use Rattle.tables.proofs.Walking.{row-bytes}
+use Rattle.tables.specs.Row.{IsRow}
+use Rattle.page.proofs.Tallying.{Tallying, place-0, begins, ends, inside, place-fits, count-fits, its-cell, tally-12, counts-on}
 use Rattle.page.proofs.inner.tallying.tally_page.Statement.{statement}
 use Rattle.page.proofs.inner.tallying.tally_page.Tie as tie
-use Rattle.page.proofs.inner.tallying.tally_page.Reads as reads
-use Rattle.page.proofs.inner.tallying.tally_page.Lts as lts
-use Rattle.pairing.proofs.inner.walking.walk_from.Reads as walk-from-reads
-use Rattle.pairing.proofs.inner.walking.walked.Reads as walked-reads
-use Rattle.places.proofs.inner.looking.look.Reads as look-reads
-use Rattle.places.proofs.inner.showing.answer_number.Reads as answer-number-reads
-use Rattle.rows.proofs.inner.row.row_at.Reads as row-at-reads
 
 abbrev Inv-loop : tie.InvT-loop
-Inv-loop table places row page counts₀ walk₀ place₀ counts walk place = ?
+Inv-loop table places row page counts₀ walk₀ place₀ counts walk place = Tallying table page (walk .row) (walk .end) place counts
 
 abbrev μ-loop : tie.MeasureT-loop
-μ-loop table places row page counts₀ walk₀ place₀ counts walk place = ?
+μ-loop table places row page counts₀ walk₀ place₀ counts walk place = places - place
 
--- src/inner/tallying.rt:25:9
 walk-from-requires : tie.Need-walk-from-requires Inv-loop μ-loop
-walk-from-requires c κs = ?
+walk-from-requires c κs = let p = c .before .before .pre in place-0 (p .0) (p .1)
 
--- src/inner/tallying.rt:27:5
 loop-holds : tie.Need-loop-holds Inv-loop μ-loop
-loop-holds c = ?
+loop-holds c = begins (c .before .before .before .pre .0) (c .walk-from .ensures)
 
--- src/inner/tallying.rt:28:9
 walked-requires : tie.Need-walked-requires Inv-loop μ-loop
-walked-requires c κs = ?
+walked-requires c κs = let i = c .before .loop in (i .inv .on, inside (c .before .before .before .before .before .pre .0) (i .inv) (search needs))
 
--- src/inner/tallying.rt:30:20
 row-at-requires : tie.Need-row-at-requires Inv-loop μ-loop
-row-at-requires c κs = ?
+row-at-requires c κs = c .walked .ensures .below
 
--- src/inner/tallying.rt:30:15
 look-requires : tie.Need-look-requires Inv-loop μ-loop
-look-requires c κs = ?
+look-requires c κs = (rw (c .row-at .ensures .0) (row-bytes (c .before .walked .ensures)), its-cell (c .before .before .before .before .before .before .before .pre .0) (c .before .before .before .loop .inv) (search needs))
 
--- src/inner/tallying.rt:31:52
-enum-told : tie.Need-enum-told Inv-loop μ-loop
-enum-told c = ?
-
--- src/inner/tallying.rt:31:28
 returns : tie.Need-returns Inv-loop μ-loop
-returns c = ?
+returns c = tally-12 (c .before .before .before .before .before .before .before .before .before .before .pre .0) (c .before .before .before .before .before .before .loop .inv) (search needs) (rw (c .enum-told .given .1) at (c .before .before .look .ensures))
 
--- src/inner/tallying.rt:32:24
-enum-known-seen : tie.Need-enum-known-seen Inv-loop μ-loop
-enum-known-seen c = ?
-
--- src/inner/tallying.rt:34:21
-answer-number-requires : tie.Need-answer-number-requires Inv-loop μ-loop
-answer-number-requires c κs = ?
-
--- src/inner/tallying.rt:35:17
-mul-counts : tie.Need-mul-counts Inv-loop μ-loop
-mul-counts c = ?
-
--- src/inner/tallying.rt:35:17
-array-read-counts : tie.Need-array-read-counts Inv-loop μ-loop
-array-read-counts c = ?
-
--- src/inner/tallying.rt:35:17
 add-counts : tie.Need-add-counts Inv-loop μ-loop
-add-counts c = ?
+add-counts c = omega (arith, count-fits (c .before .before .before .before .before .before .before .before .before .before .before .before .pre .0) (c .before .before .before .before .before .before .before .before .loop .inv) (search needs) (c .answer-number .result))
 
--- src/inner/tallying.rt:35:17
-array-write-counts : tie.Need-array-write-counts Inv-loop μ-loop
-array-write-counts c = ?
-
--- src/inner/tallying.rt:38:9
 add-place : tie.Need-add-place Inv-loop μ-loop
-add-place c = ?
+add-place c = omega (arith, place-fits (c .before .before .before .before .before .before .before .before .before .before .before .before .pre .0) (c .before .before .before .before .before .before .before .before .loop .inv) (search needs))
 
--- src/inner/tallying.rt:27:5
-loop-less : tie.Need-loop-less Inv-loop μ-loop
-loop-less c = ?
-
--- src/inner/tallying.rt:27:5
 loop-again : tie.Need-loop-again Inv-loop μ-loop
-loop-again c = ?
+loop-again c =
+    let a = c .before .before .before .before .before .before .before .before .before .before .before .before in
+    let i = c .before .before .before .before .before .before .before .before .loop in
+    let seen = rw (c .before .before .seen .given .1) at (c .before .before .before .before .look .ensures) in
+    let judged = seen .1 .is-judged ∙ ap (λ (row : List _). judge row (c .before .before .before .before .before .before .walked .result .row) (cellAt (a .args .page .now) (i .place))) (c .before .before .before .before .before .row-at .ensures .0) in
+    counts-on (a .pre .0) (i .inv) (search needs) (c .before .before .before .before .before .before .walked .ensures) (seen .0) judged (c .answer-number .ensures .0)
 
--- src/inner/tallying.rt:41:16
-array-read-t23 : tie.Need-array-read-t23 Inv-loop μ-loop
-array-read-t23 c = ?
-
--- src/inner/tallying.rt:42:17
-array-read-t26 : tie.Need-array-read-t26 Inv-loop μ-loop
-array-read-t26 c = ?
-
--- src/inner/tallying.rt:43:18
-array-read-t29 : tie.Need-array-read-t29 Inv-loop μ-loop
-array-read-t29 c = ?
-
--- src/inner/tallying.rt:44:20
-array-read-t32 : tie.Need-array-read-t32 Inv-loop μ-loop
-array-read-t32 c = ?
-
--- src/inner/tallying.rt:45:21
-array-read-t35 : tie.Need-array-read-t35 Inv-loop μ-loop
-array-read-t35 c = ?
-
--- src/inner/tallying.rt:20:1
 returns-2 : tie.Need-returns-2 Inv-loop μ-loop
-returns-2 c = ?
+returns-2 c = ends (c .before .before .before .before .before .pre .0) (c .before .loop .inv) (search needs)
 
 pub tally-page-spec : {M : Type 1} → statement M
 tally-page-spec =
@@ -113,20 +65,20 @@ tally-page-spec =
     walked-requires
     row-at-requires
     look-requires
-    enum-told
+    (λ c. search needs)
     returns
-    enum-known-seen
-    answer-number-requires
-    mul-counts
-    array-read-counts
+    (λ c. search needs)
+    (λ c κs. tt)
+    (λ c. search needs)
+    (λ c. search needs)
     add-counts
-    array-write-counts
+    (λ c. search needs)
     add-place
-    loop-less
+    (λ c. search needs)
     loop-again
-    array-read-t23
-    array-read-t26
-    array-read-t29
-    array-read-t32
-    array-read-t35
+    (λ c. search needs)
+    (λ c. search needs)
+    (λ c. search needs)
+    (λ c. search needs)
+    (λ c. search needs)
     returns-2)

@@ -1,0 +1,85 @@
+-- What the tally says with a table and a page that passed, place by place: the answers so far are counted, and the checks that are left decide.
+-- Assumes nothing.
+use Prim.Native.Nat.{ℕ, _+_, _-_, _≤_, _<_}
+use mathlib.Core.Bool.{true, false}
+use mathlib.Core.List.{List, [], _∷_}
+use mathlib.Core.Path.{_≡_, refl, sym, ap, _∙_}
+use native.Mathlib.Nat.{sub-zero}
+use native.Mathlib.Numerals.{add-one}
+use native.Mathlib.Omega.{arith}
+use lib.ListN.{getD, set}
+use Rattle.answers.proofs.Each.{each-refused, each-passed, none-left}
+use Rattle.answers.specs.Checks.{firstOf, eachFrom}
+use Rattle.tables.proofs.Good.{places-to}
+use Rattle.tables.proofs.Walking.{its-row, walks-here, walks-on, placed-in, first-place}
+use Rattle.tables.specs.Table.{placesIn, rowOf, rowAt}
+use Rattle.tables.specs.Way.{Placed, Walked, AtRow}
+use Rattle.layout.specs.Bounds.{InPage}
+use Rattle.layout.specs.Layout.{cellAt}
+use Rattle.rules.proofs.Counts.{five-answers, counts-next, counts-to}
+use Rattle.rules.proofs.Pages.{page-good, page-size}
+use Rattle.rules.specs.Judging.{judge, judgeAt, answerNumber}
+use Rattle.rules.specs.Taking.{badCell, cellCheckAt}
+use Rattle.rules.specs.Tallying.{countOf, countsOf, answersIn, tallyOf, tallyRest}
+use Rattle.rules.specs.declared.Judged.{Judged}
+use Rattle.places.proofs.Opening.{in-page}
+use Rattle.page.specs.Bounds.{Ready}
+
+-- n places are counted, on the way through the rows
+pub record Tallying (t pg : List ℕ) (row end n : ℕ) (counts : List ℕ) : Type 0 where
+  pub to : n ≤ placesIn t
+  pub on : Walked t row end n
+  pub counted : counts ≡ countsOf (answersIn t pg) n
+  pub left : firstOf (eachFrom (cellCheckAt pg) n (placesIn t - n)) (0 ∷ tallyOf t pg) ≡ firstOf (tallyRest t pg) (0 ∷ tallyOf t pg)
+
+module _ {t pg : List ℕ} {places : ℕ} (ready : Ready t pg places) where
+  -- the way begins at place 0
+  pub place-0 : {row : ℕ} → row ≡ rowOf t 0 → Placed t 0 row
+  place-0 is-row = let good = page-good t pg (ready .passes) in placed-in good (first-place t good) is-row
+
+  pub begins : {row end : ℕ} → AtRow t row end 0 → Tallying t pg row end 0 (0 ∷ 0 ∷ 0 ∷ 0 ∷ 0 ∷ [])
+  unfolding countOf
+  begins at-row = record { to = omega arith; on = walks-here at-row; counted = refl; left = rw (sub-zero (placesIn t)) refl }
+
+  module _ {row end n : ℕ} {counts : List ℕ} (so-far : Tallying t pg row end n counts) where
+    -- every place is counted
+    pub ends : places ≤ n → 0 ∷ getD counts 0 0 ∷ getD counts 1 0 ∷ getD counts 2 0 ∷ getD counts 3 0 ∷ getD counts 4 0 ∷ [] ≡ firstOf (tallyRest t pg) (0 ∷ tallyOf t pg)
+    ends past =
+        let all : n ≡ placesIn t = omega (arith, ready .is-places, so-far .to) in
+        rw (so-far .counted, all) refl ∙ sym (none-left (cellCheckAt pg) (0 ∷ tallyOf t pg) n (placesIn t) (omega arith)) ∙ so-far .left
+
+    module _ (h : n < places) where
+      pub inside : n < placesIn t
+      inside = omega (arith, ready .is-places)
+
+      -- the number of a place, and a count, stay small
+      pub place-fits : n + 1 ≤ 4096
+      place-fits = omega (arith, inside, places-to t (page-good t pg (ready .passes)))
+
+      pub count-fits : (a : ℕ) → getD counts a 0 ≤ 4096
+      count-fits a = rw (so-far .counted) (omega (arith, counts-to (answersIn t pg) n a, place-fits))
+
+      pub its-cell : InPage pg places n
+      its-cell = in-page t (page-good t pg (ready .passes)) (page-size t pg (ready .passes)) (ready .is-places) inside
+
+      pub tally-12 : badCell n (cellAt pg n) ≡ true → 12 ∷ n ∷ [] ≡ firstOf (tallyRest t pg) (0 ∷ tallyOf t pg)
+      tally-12 bad = sym (each-refused (cellCheckAt pg) (0 ∷ tallyOf t pg) n (placesIn t) inside bad) ∙ so-far .left
+
+      module _ {row′ end′ : ℕ} (at-row : AtRow t row′ end′ n) (fine : badCell n (cellAt pg n) ≡ false) {j : Judged}
+          (judged : j ≡ judge (rowAt t row′) row′ (cellAt pg n)) {a : ℕ} (is-number : a ≡ answerNumber j) where
+        answer-is : answersIn t pg n ≡ a
+        answer-is =
+            let same : j ≡ judgeAt t pg n = judged ∙ ap (λ (r : ℕ). judge (rowAt t r) r (cellAt pg n)) (its-row at-row inside) in
+            sym (is-number ∙ ap answerNumber same)
+
+        pub counts-on : Tallying t pg row′ end′ (n + 1) (set counts a (getD counts a 0 + 1))
+        counts-on = record {
+          to = omega (arith, inside);
+          on = walks-on at-row;
+          counted =
+              rw (add-one n, add-one (getD counts a 0), so-far .counted)
+              (counts-next (answersIn t pg) n a answer-is (rw is-number (five-answers j)));
+          left =
+              rw (add-one n)
+              (sym (each-passed (cellCheckAt pg) (0 ∷ tallyOf t pg) n (placesIn t) inside fine) ∙ so-far .left);
+        }
