@@ -1,44 +1,52 @@
--- For any enumeration that is one to one below its total: a record that holds a place's row, a radius number of that row and the index of a point of
--- that shell, and that is all that came for its place, is sound with that point. Assumes nothing.
+-- A record that holds a place's row, a radius number of that row and the index of a point of that shell, and that is all that came for its place, is
+-- sound with that point. Of the row's enumeration only its laws are used. Assumes nothing.
 use Prim.Native.Nat.{ℕ, _<_}
 use mathlib.Core.Path.{_≡_, sym, ap, ap₂, _∙_}
 use mathlib.Core.List.{List}
-use native.Mathlib.Omega.{arith}
 use lib.IntN.{ℤ}
-use Rattle.enumeration.specs.Enumeration.{Enumeration}
 use Rattle.enumeration.specs.Point.{OnShell}
-use Rattle.tables.specs.Row.{lengthOf, radiiOf, radiusAt, GoodRow}
-use Rattle.tables.specs.Table.{placesIn, Good, rowOf}
+use Rattle.tables.specs.Row.{radiiOf, radiusAt, enumerationOf, shellTotal}
+use Rattle.tables.specs.Table.{placesIn, Good, rowOf, rowFor, lengthFor}
 use Rattle.tables.proofs.Good.{good-place}
+use Rattle.tables.proofs.GoodRow.{row-lawful}
 use Rattle.records.specs.Record.{Holds}
-use Rattle.rules.specs.Cell.{heldCell}
-use Rattle.rules.specs.Judging.{judgeCodeword, judge}
-use Rattle.rules.specs.Taking.{grown}
+use Rattle.rules.specs.Judging.{judgeIn, judge, NamesPoint}
+use Rattle.rules.specs.Taking.{heldCell, grown}
 use Rattle.rules.specs.declared.Judged.the-variants as judged
 use Rattle.cells.proofs.Judging.{codeword-sound, record-judged}
-use Rattle.page.proofs.Scaled.{coordinate-to}
 use Rattle.channel.specs.Demand3.{OnlyCame, SoundWith}
-use Rattle.channel.proofs.Values.{exact-value}
+use Rattle.channel.proofs.Values.{exact-shown}
 use Rattle.channel.proofs.Reading.{grown-reads}
 use Rattle.channel.proofs.ThreeCases.{equal-cell}
 
-module _ (e : Enumeration) (t : List ℕ) (good : Good t) (p : ℕ) (h : p < placesIn t) (number : ℕ) (in-row : number < radiiOf t (rowOf t p)) (q : List ℤ) (on : OnShell (lengthOf t (rowOf t p)) (radiusAt t (rowOf t p) number) q) where
-  held-sound : (y : List ℕ) → Holds y p (rowOf t p) number (e .index q) → judge e t (rowOf t p) (heldCell y) ≡ judged.Sound (radiusAt t (rowOf t p) number) (e .index q)
+module _ (t : List ℕ) (good : Good t) (p : ℕ) (h : p < placesIn t) (number : ℕ) (in-row : number < radiiOf (rowFor t p)) (q : List ℤ) (on : OnShell (lengthFor t p) (radiusAt (rowFor t p) number) q) where
+  abbrev row : List ℕ
+  row = rowFor t p
+
+  abbrev k : ℕ
+  k = radiusAt row number
+
+  abbrev codeword : ℕ
+  codeword = enumerationOf row .index q
+
+  codeword-names : NamesPoint row k codeword
+  codeword-names = record {
+    usable = good-place t p good h .1 .radius-usable number in-row;
+    below = row-lawful row .index-below (lengthFor t p) k q on;
+    named = row-lawful row .index-names (lengthFor t p) k q on;
+  }
+
+  held-sound : (y : List ℕ) → Holds y p (rowOf t p) number codeword → judge row (rowOf t p) (heldCell y) ≡ judged.Sound k codeword
   unfolding judge
   held-sound y holds =
-      let r = rowOf t p in
-      let k = radiusAt t r number in
-      sym (record-judged e t r y (holds .holds-row) (rw (holds .holds-radius-number) in-row))
-      ∙ ap₂ (λ (n c : ℕ). judgeCodeword (e .total (lengthOf t r) (radiusAt t r n)) (radiusAt t r n) c) (holds .holds-radius-number) (holds .holds-codeword)
-      ∙ sym (codeword-sound (e .total (lengthOf t r) k) k (e .index q) (e .index-below (lengthOf t r) k q on))
+      sym (record-judged row (rowOf t p) y (holds .holds-row) (rw (holds .holds-radius-number) in-row))
+      ∙ ap₂ (λ (n c : ℕ). judgeIn row (radiusAt row n) c) (holds .holds-radius-number) (holds .holds-codeword)
+      ∙ sym (codeword-sound (shellTotal row k) k codeword (codeword-names .below))
 
-  pub arrived-sound : (y : List ℕ) → Holds y p (rowOf t p) number (e .index q) → (xs : List (List ℕ)) → OnlyCame t xs p y → SoundWith e t (grown t xs) p q
+  pub arrived-sound : (y : List ℕ) → Holds y p (rowOf t p) number codeword → (xs : List (List ℕ)) → OnlyCame t xs p y → SoundWith t (grown t xs) p q
   arrived-sound y holds xs all =
-      let row : GoodRow t (rowOf t p) = good-place t p good h .1 in
+      let back = row-lawful row .point-of-index (lengthFor t p) k q on in
       record {
-        reads = grown-reads t good xs p h e (judged.Sound (radiusAt t (rowOf t p) number) (e .index q)) q
-            (ap (judge e t (rowOf t p)) (equal-cell t good xs p h y all) ∙ held-sound y holds)
-            (e .point-of-index (lengthOf t (rowOf t p)) (radiusAt t (rowOf t p) number) q on);
-        exact = λ bytes i.
-            exact-value t p q i (omega (arith, coordinate-to q i, on .of-radius, row .radius-usable number in-row .radius-to)) bytes;
+        reads = grown-reads t good xs p h (judged.Sound k codeword) q (ap (judge row (rowOf t p)) (equal-cell t good xs p h y all) ∙ held-sound y holds) back;
+        exact = λ bytes i. rw back at (exact-shown t p (judged.Sound k codeword) codeword-names bytes i);
       }

@@ -26,7 +26,7 @@ pub demand-3 : Demand3
 demand-3 = record {
   a = any-order;
   b = cell-told;
-  never-12 = λ e t xs. never-12 t xs e;
+  never-12 = never-12;
   c = shown-as-sent;
   d = only-signs-change;
   e-read = read-only-sent;

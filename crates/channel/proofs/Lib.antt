@@ -1,3 +1,4 @@
+pub mod Conditions
 pub mod Refusing
 pub mod Calls
 pub mod AnyOrder

@@ -10,12 +10,10 @@ use borrow.Author.Tests.{leb-false}
 use Rattle.answers.specs.Checks.{anyOf, failsOf, eachFrom}
 use Rattle.answers.proofs.InOrder.{none-of, passes-fails}
 use Rattle.answers.proofs.Each.{passes-each}
-use Rattle.enumeration.specs.Enumeration.{Enumeration}
 use Rattle.tables.specs.Table.{placesIn, tableChecks, noSuchPlace, Good}
 use Rattle.records.specs.Record.{placeIn}
-use Rattle.rules.specs.Cell.{cell}
-use Rattle.rules.specs.Taking.{badCell, grown}
-use Rattle.rules.specs.Tallying.{cellCheck}
+use Rattle.layout.specs.Layout.{cellAt}
+use Rattle.rules.specs.Taking.{badCell, cellCheckAt, grown}
 use Rattle.rules.proofs.Grown.{grown-not-bad}
 use Rattle.channel.specs.Demand3.{Never12}
 use Rattle.channel.proofs.Calls.{demand-1}
@@ -28,36 +26,36 @@ last : {X Y Z W : Type 0} → (X × Z × W) ⊎ (Y × ⊥) → X
 last r = ⊎-elim (λ h. h .0) (λ h. absurd (h .1)) r
 
 module _ (t : List ℕ) (xs : List (List ℕ)) where
-  no-fault : anyOf (failsOf (tableChecks t)) ≡ false → (p : ℕ) → noSuchPlace t p ≡ false → badCell p (cell (grown t xs) p) ≡ true → ⊥
+  no-fault : anyOf (failsOf (tableChecks t)) ≡ false → (p : ℕ) → noSuchPlace t p ≡ false → badCell p (cellAt (grown t xs) p) ≡ true → ⊥
   no-fault table p place bad =
       false≢true (sym (grown-not-bad t (none-of (failsOf (tableChecks t)) table) xs p (leb-false (placesIn t) p place)) ∙ bad)
 
-  no-faults : anyOf (failsOf (tableChecks t)) ≡ false → anyOf (failsOf (eachFrom (cellCheck (grown t xs)) 0 (placesIn t))) ≡ true → ⊥
+  no-faults : anyOf (failsOf (tableChecks t)) ≡ false → anyOf (failsOf (eachFrom (cellCheckAt (grown t xs)) 0 (placesIn t))) ≡ true → ⊥
   no-faults table bad =
       let good : Good t = none-of (failsOf (tableChecks t)) table in
-      let cells = eachFrom (cellCheck (grown t xs)) 0 (placesIn t) in
-      false≢true (sym (passes-fails cells (passes-each (cellCheck (grown t xs)) 0 (placesIn t) (λ p from to. grown-not-bad t good xs p (omega arith)))) ∙ bad)
+      let cells = eachFrom (cellCheckAt (grown t xs)) 0 (placesIn t) in
+      false≢true (sym (passes-fails cells (passes-each (cellCheckAt (grown t xs)) 0 (placesIn t) (λ p from to. grown-not-bad t good xs p (omega arith)))) ∙ bad)
 
-  pub never-12 : (e : Enumeration) → Never12 e t xs
-  never-12 e = record {
+  pub never-12 : Never12 t xs
+  never-12 = record {
     take = λ x said.
-        let table = past (λ f. omega (arith, f)) (demand-1 e .take t (grown t xs) x .exactly 11 .0 said) in
+        let table = past (λ f. omega (arith, f)) (demand-1 .take t (grown t xs) x .exactly 11 .0 said) in
         let size = past (λ f. omega (arith, f)) (table .1) in
         let place = past (λ f. omega (arith, f)) (size .1) in
         no-fault (table .0) (placeIn x) (place .0) (last (place .1));
     read = λ p out said.
-        let table = past (λ f. omega (arith, f)) (demand-1 e .read t (grown t xs) p out .exactly 11 .0 said) in
+        let table = past (λ f. omega (arith, f)) (demand-1 .read t (grown t xs) p out .exactly 11 .0 said) in
         let place = past (λ f. omega (arith, f)) (table .1) in
         let size = past (λ f. omega (arith, f)) (place .1) in
         no-fault (table .0) p (place .0) (last (size .1));
     coefficient = λ p i said.
-        let table = past (λ f. omega (arith, f)) (demand-1 e .coefficient t (grown t xs) p i .exactly 11 .0 said) in
+        let table = past (λ f. omega (arith, f)) (demand-1 .coefficient t (grown t xs) p i .exactly 11 .0 said) in
         let place = past (λ f. omega (arith, f)) (table .1) in
         let size = past (λ f. omega (arith, f)) (place .1) in
         let coordinate = past (λ f. omega (arith, f)) (size .1) in
         no-fault (table .0) p (place .0) (last (coordinate .1));
     tally = λ said.
-        let table = past (λ f. omega (arith, f)) (demand-1 e .tally t (grown t xs) .exactly 11 .0 said) in
+        let table = past (λ f. omega (arith, f)) (demand-1 .tally t (grown t xs) .exactly 11 .0 said) in
         let size = past (λ f. omega (arith, f)) (table .1) in
         no-faults (table .0) (last (size .1));
   }

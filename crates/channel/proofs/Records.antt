@@ -5,7 +5,7 @@ use lib.Ieee.{Float, nan}
 use lib.ListN.{getD}
 use Rattle.floats.proofs.Nearest.{whole-nearest}
 use Rattle.tables.specs.Row.{GoodRow}
-use Rattle.tables.specs.Table.{rowOf}
+use Rattle.tables.specs.Table.{rowFor}
 use Rattle.tables.proofs.Good.{good-place}
 use Rattle.tables.proofs.Places.{row-holds}
 use Rattle.coding.specs.Coded.{radiusFor, pointFor}
@@ -16,26 +16,27 @@ use Rattle.coefficients.proofs.Radii.{least-miss, smaller-on-tie, some-total}
 use Rattle.quantizer.proofs.Written.{number-in, point-in, record-written}
 use Rattle.channel.specs.Demand2.{Quantizes, QuantizeWrites}
 use Rattle.channel.proofs.Accepted.{Accepted, accepts}
+use Rattle.channel.proofs.Numbering.{row-index}
 
 module _ (t : List ℕ) (p : ℕ) (w : List Float) (out : List ℕ) (a : Accepted t p w out) where
-  row : GoodRow t (rowOf t p)
+  row : GoodRow (rowFor t p)
   row = good-place t p (a .good) (a .inside) .1
 
-  its-point : IsPointOf (radiusFor t (rowOf t p) w) w (pointFor t (rowOf t p) w)
-  its-point = point-is (radiusFor t (rowOf t p) w) w (some-total t (rowOf t p) row (totalOf w))
+  its-point : IsPointOf (radiusFor (rowFor t p) w) w (pointFor (rowFor t p) w)
+  its-point = point-is (radiusFor (rowFor t p) w) w (some-total (rowFor t p) row (totalOf w))
 
   written : Quantizes t p w (recordFor t p w)
   written = record {
-    fields = record-written t p w (a .good) (a .inside) (a .long);
+    fields = rw (← row-index (rowFor t p) (pointFor (rowFor t p) w)) (record-written t p w (a .good) (a .inside) (a .long));
     its-row = row-holds t p (a .inside);
     nearest = λ i h. whole-nearest (getD w i nan);
     in-row = number-in t p w (a .good) (a .inside) (a .long);
-    least = least-miss t (rowOf t p) row (totalOf w);
-    first = smaller-on-tie t (rowOf t p) row (totalOf w);
+    least = least-miss (rowFor t p) row (totalOf w);
+    first = smaller-on-tie (rowFor t p) row (totalOf w);
     on-shell = point-in t p w (a .good) (a .inside) (a .long);
     point = its-point;
-    only-point = λ q is. point-only (radiusFor t (rowOf t p) w) w q (pointFor t (rowOf t p) w) is its-point;
-    zeros = λ i h none. zero-stays (radiusFor t (rowOf t p) w) w i h (some-total t (rowOf t p) row (totalOf w)) none;
+    only-point = λ q is. point-only (radiusFor (rowFor t p) w) w q (pointFor (rowFor t p) w) is its-point;
+    zeros = λ i h none. zero-stays (radiusFor (rowFor t p) w) w i h (some-total (rowFor t p) row (totalOf w)) none;
   }
 
 pub quantize-writes : QuantizeWrites

@@ -11,6 +11,7 @@ use borrow.Author.Tests.{ltb-true}
 use Rattle.answers.specs.Checks.{numberSaid, Check, pick, firstOf, leaves, Refuses, Passes}
 use Rattle.answers.proofs.InOrder.{refuses-says, says-refuses, passes-says, refuses-leaves, passes-leaves, passed-says, passed-leaves}
 use Rattle.channel.specs.Demand1.{numbersOf, Refusing, Unchanged}
+use Rattle.channel.proofs.Conditions.{Alike}
 
 -- ---- conditions name nothing
 abbrev pub namedBy : List Check → List ℕ
@@ -68,10 +69,9 @@ module _ (cs ds : List Check) where
 -- ---- a call
 module _ (a : List ℕ) (checks : List Check) where
   -- the number that is said is that of the conditions
-  pub refusing : (conditions : List Check) → namedBy conditions ≡ [] → noZero conditions ≡ true
-      → numberSaid (firstOf checks (0 ∷ a)) ≡ numberSaid (firstOf conditions (0 ∷ a))
+  pub refusing : (conditions : List Check) → namedBy conditions ≡ [] → noZero conditions ≡ true → Alike checks conditions
       → Refusing (numbersOf conditions) conditions checks (firstOf checks (0 ∷ a))
-  refusing conditions plain above same = record {
+  refusing conditions plain above alike = record {
     in-order = refl;
     exactly = λ n. (refused n, λ r. same ∙ ap numberSaid (refuses-says (0 ∷ a) conditions (suc n) [] r));
     answered = (λ e. none-said a conditions above (sym same ∙ e), λ p. same ∙ ap numberSaid (passes-says (0 ∷ a) conditions p));
@@ -79,6 +79,9 @@ module _ (a : List ℕ) (checks : List Check) where
     listed = λ n e. refuses-listed conditions (suc n) [] (refused n e);
   }
     where
+      same : numberSaid (firstOf checks (0 ∷ a)) ≡ numberSaid (firstOf conditions (0 ∷ a))
+      same = alike .said (0 ∷ a)
+
       refused : (n : ℕ) → numberSaid (firstOf checks (0 ∷ a)) ≡ suc n → Refuses conditions (suc n) []
       refused n e =
           let b = begins (firstOf conditions (0 ∷ a)) n (sym same ∙ e) in

@@ -1,61 +1,57 @@
 -- Demand 3 e: what a place shows is what came for it, once or several times, and nothing else did. Assumes nothing.
 use Prim.Native.Nat.{ℕ, _<_}
-use mathlib.Core.Path.{_≡_, refl, ap}
-use mathlib.Core.List.{List, _++_}
+use mathlib.Core.Path.{refl, ap}
+use mathlib.Core.List.{List, [], _∷_, _++_}
 use mathlib.Core.Logic.{inl, inr, ⊎-elim}
 use native.Mathlib.Omega.{arith}
-use borrow.Author.Tests.{leb-false}
+use lib.Dec.{lit<}
 use lib.ListN.{length, getD}
-use Rattle.answers.specs.Checks.{numberSaid, Check, failsOf, firstOf, Passes}
-use Rattle.answers.proofs.InOrder.{none-of}
-use Rattle.enumeration.specs.Enumeration.{Enumeration}
-use Rattle.tables.specs.Row.{lengthOf}
-use Rattle.tables.specs.Table.{placesIn, tableChecks, Good, rowOf}
-use Rattle.rules.specs.Cell.{heldCell}
-use Rattle.rules.specs.Taking.{grown}
-use Rattle.rules.specs.Judging.{judge, judgeAt, answerNumber, shown}
-use Rattle.rules.specs.Reading.{told, readRest, readSays, coefficientRest, coefficientSays}
-use Rattle.channel.specs.Demand1.{withTable}
+use Rattle.answers.specs.Checks.{Check, firstOf, Passes}
+use Rattle.answers.proofs.InOrder.{Numbered, numbered-then, says-passes, passes-apart, passes-says}
+use Rattle.tables.specs.Table.{placesIn, Good, rowOf, rowFor}
+use Rattle.layout.specs.Layout.{Cell}
+use Rattle.rules.specs.Taking.{heldCell, lookChecks, grown}
+use Rattle.rules.specs.Judging.{judge, judgeAt, answerNumber, reasonOf, shown}
+use Rattle.rules.specs.Reading.{told, readRest, coefficientRest}
+use Rattle.rules.proofs.Pages.{look-numbered, look-place}
 use Rattle.channel.specs.Demand3.{WhatCame, ShowsPoint, OnlySent, ReadOnlySent, ValuedOnlySent}
-use Rattle.channel.proofs.Refusing.{says-through}
-use Rattle.channel.proofs.Calls.{demand-1}
 use Rattle.channel.proofs.Reading.{grown-reads}
 use Rattle.channel.proofs.ThreeCases.{which-came, nobody-cell, equal-cell, differ-cell}
 
-module _ (e : Enumeration) (t : List ℕ) (xs : List (List ℕ)) (p : ℕ) where
+module _ (t : List ℕ) (xs : List (List ℕ)) (p : ℕ) where
   -- a place that is missing or contested shows nothing
-  only-equal : Good t → p < placesIn t → answerNumber (judgeAt e t (grown t xs) p) < 2 → WhatCame t xs p → OnlySent e t xs p
+  only-equal : Good t → p < placesIn t → answerNumber (judgeAt t (grown t xs) p) < 2 → WhatCame t xs p → OnlySent t xs p
   unfolding judge
   only-equal good h shows (inl none) =
-      absurd (omega (arith, ap (λ (c : List ℕ). answerNumber (judge e t (rowOf t p) c)) (nobody-cell t good xs p h none)))
-  only-equal good h shows (inr (inl (y, all))) = record {
-    arrived = y;
-    all-equal = all;
-    its-point = grown-reads t good xs p h e (judge e t (rowOf t p) (heldCell y)) (shown e (lengthOf t (rowOf t p)) (judge e t (rowOf t p) (heldCell y)))
-        (ap (judge e t (rowOf t p)) (equal-cell t good xs p h y all)) refl .read-leaves;
-  }
+      absurd (omega (arith, ap (λ (c : Cell). answerNumber (judge (rowFor t p) (rowOf t p) c)) (nobody-cell t good xs p h none)))
+  only-equal good h shows (inr (inl (y, all))) =
+      let j = judge (rowFor t p) (rowOf t p) (heldCell y) in
+      record {
+        arrived = y;
+        all-equal = all;
+        its-point = grown-reads t good xs p h j (shown (rowFor t p) j) (ap (judge (rowFor t p) (rowOf t p)) (equal-cell t good xs p h y all)) refl .read-leaves;
+      }
   only-equal good h shows (inr (inr two)) =
-      absurd (omega (arith, ap (λ (c : List ℕ). answerNumber (judge e t (rowOf t p) c)) (differ-cell t good xs p h two)))
+      absurd (omega (arith, ap (λ (c : Cell). answerNumber (judge (rowFor t p) (rowOf t p) c)) (differ-cell t good xs p h two)))
 
-  -- sound and mended are the first two answers
-  first-two : (says : List ℕ) → ShowsPoint says → (numberSaid says ≡ 0) × (getD says 1 0 < 2)
-  first-two says shows = ⊎-elim (λ sound. rw sound (refl, omega arith)) (λ mended. rw mended (refl, omega arith)) shows
-
-  -- either reader says what is told of the place, if the checks after the table's pass
-  by-reader : (rest : List Check) → Passes (withTable t rest) → p < placesIn t → ShowsPoint (firstOf (tableChecks t ++ rest) (told (judgeAt e t (grown t xs) p)))
-      → OnlySent e t xs p
-  by-reader rest passes h shows =
-      let says = told (judgeAt e t (grown t xs) p) in
-      let good : Good t = none-of (failsOf (tableChecks t)) (passes .0) in
-      let same = says-through (tableChecks t) rest says good (passes .1) in
-      only-equal good h (first-two says (rw same at shows) .1) (which-came t p xs)
+  -- either reader looks at the place first; where it shows a point all its checks pass, and sound and mended are the first two answers
+  by-reader : (rest : List Check) → Numbered rest → ShowsPoint (firstOf (lookChecks t (grown t xs) p ++ rest) (told (judgeAt t (grown t xs) p)))
+      → OnlySent t xs p
+  by-reader rest numbered shows =
+      let pg = grown t xs in
+      let j = judgeAt t pg p in
+      let checks = lookChecks t pg p ++ rest in
+      let all-numbered = numbered-then (lookChecks t pg p) rest (look-numbered t pg p) numbered in
+      let passes : Passes checks =
+      ⊎-elim (says-passes (answerNumber j ∷ reasonOf j ∷ []) (0 ∷ 0 ∷ []) checks all-numbered) (says-passes (answerNumber j ∷ reasonOf j ∷ []) (1 ∷ 0 ∷ []) checks all-numbered) shows in
+      let said : ShowsPoint (told j) = rw (passes-says (told j) checks passes) at shows in
+      let first-two : answerNumber j < 2 =
+      ⊎-elim (λ sound. omega (arith, ap (λ (says : List ℕ). getD says 1 0) sound)) (λ mended. omega (arith, ap (λ (says : List ℕ). getD says 1 0) mended)) said in
+      let place = look-place t pg p (passes-apart (lookChecks t pg p) rest passes .0) in
+      only-equal (place .0) (place .1) first-two (which-came t p xs)
 
 pub read-only-sent : ReadOnlySent
-read-only-sent e t xs p out shows =
-    let passes = demand-1 e .read t (grown t xs) p out .answered .0 (first-two e t xs p (readSays e t (grown t xs) p out) shows .0) in
-    by-reader e t xs p (readRest t (grown t xs) p (length out)) passes (leb-false (placesIn t) p (passes .1 .0)) shows
+read-only-sent t xs p out shows = by-reader t xs p (readRest (rowFor t p) (grown t xs) p (length out)) (lit< tt, (lit< tt, tt)) shows
 
 pub valued-only-sent : ValuedOnlySent
-valued-only-sent e t xs p i shows =
-    let passes = demand-1 e .coefficient t (grown t xs) p i .answered .0 (first-two e t xs p (coefficientSays e t (grown t xs) p i) shows .0) in
-    by-reader e t xs p (coefficientRest t (grown t xs) p i) passes (leb-false (placesIn t) p (passes .1 .0)) shows
+valued-only-sent t xs p i shows = by-reader t xs p (coefficientRest (rowFor t p) (grown t xs) p i) (lit< tt, (lit< tt, tt)) shows

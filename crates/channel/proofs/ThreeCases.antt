@@ -6,16 +6,17 @@ use mathlib.Core.Bool.{Bool, true, false, false≢true}
 use mathlib.Core.Logic.{inl, inr, ⊎-elim}
 use lib.IntN.{pos}
 use lib.ListN.{replicate}
-use Rattle.tables.specs.Row.{lengthOf}
-use Rattle.tables.specs.Table.{placesIn, Good, rowOf}
-use Rattle.rules.specs.Cell.{cell, heldCell, contestedCell, sameBytes}
-use Rattle.rules.specs.Taking.{claims, empty, grown, Nobody}
+use Rattle.tables.specs.Table.{placesIn, Good, rowOf, rowFor, lengthFor}
+use Rattle.records.specs.Record.{sameBytes}
+use Rattle.records.proofs.Same.{bytes-same, differ-bytes}
+use Rattle.layout.specs.Layout.{Cell, cellAt, emptyCell}
+use Rattle.layout.proofs.Cells.{empty-cell}
+use Rattle.rules.specs.Taking.{claims, heldCell, contestedCell, empty, grown, Nobody}
 use Rattle.rules.specs.Judging.{judge}
 use Rattle.rules.specs.declared.Judged.the-variants as judged
-use Rattle.rules.proofs.CellRule.{bytes-same, differ-bytes}
 use Rattle.rules.proofs.CellAfter.{cellAfter, cell-after}
 use Rattle.rules.proofs.CellAfter as laws
-use Rattle.rules.proofs.Grown.{empty-size, empty-cell}
+use Rattle.rules.proofs.Grown.{empty-ready}
 use Rattle.channel.specs.Demand3.{OnlyCame, TwoDiffer, WhatCame, CellTold}
 use Rattle.channel.proofs.Reading.{grown-reads}
 
@@ -103,21 +104,20 @@ which-came t p (x ∷ xs) = go (claims t x p) refl (which-came t p xs)
     go false e = passed t p x xs e
 
 -- ---- the cell
-pub cell-of : (t : List ℕ) → Good t → (xs : List (List ℕ)) (p : ℕ) → p < placesIn t → cell (grown t xs) p ≡ cellAfter t p (replicate 9 0) xs
-cell-of t good xs p h =
-    cell-after t good (empty t) xs (empty-size (placesIn t)) p h ∙ ap (λ (c : List ℕ). cellAfter t p c xs) (empty-cell (placesIn t) p h)
-
 module _ (t : List ℕ) (good : Good t) (xs : List (List ℕ)) (p : ℕ) (h : p < placesIn t) where
-  pub nobody-cell : Nobody t xs p → cell (grown t xs) p ≡ replicate 9 0
-  nobody-cell none = cell-of t good xs p h ∙ laws.nobody t p xs (replicate 9 0) none
+  cell-of : cellAt (grown t xs) p ≡ cellAfter t p emptyCell xs
+  cell-of = cell-after t (empty t) xs (empty-ready t good) p h ∙ ap (λ (c : Cell). cellAfter t p c xs) (empty-cell (placesIn t) p h)
 
-  pub equal-cell : (y : List ℕ) → OnlyCame t xs p y → cell (grown t xs) p ≡ heldCell y
-  equal-cell y all = cell-of t good xs p h ∙ laws.all-equal t p xs (replicate 9 0) y refl (all .among) (all .claiming) (all .equal)
+  pub nobody-cell : Nobody t xs p → cellAt (grown t xs) p ≡ emptyCell
+  nobody-cell none = cell-of ∙ laws.nobody t p xs emptyCell none
 
-  pub differ-cell : TwoDiffer t xs p → cell (grown t xs) p ≡ contestedCell
+  pub equal-cell : (y : List ℕ) → OnlyCame t xs p y → cellAt (grown t xs) p ≡ heldCell y
+  equal-cell y all = cell-of ∙ laws.all-equal t p xs emptyCell y refl (all .among) (all .claiming) (all .equal)
+
+  pub differ-cell : TwoDiffer t xs p → cellAt (grown t xs) p ≡ contestedCell
   differ-cell d =
-      cell-of t good xs p h
-      ∙ laws.two-differ t p xs (replicate 9 0) (d .one) (d .other) refl (d .one-among) (d .one-claiming) (d .other-among) (d .other-claiming) (d .differ)
+      cell-of
+      ∙ laws.two-differ t p xs emptyCell (d .one) (d .other) refl (d .one-among) (d .one-claiming) (d .other-among) (d .other-claiming) (d .differ)
 
   pub cell-told : CellTold t xs p
   unfolding judge
@@ -126,6 +126,8 @@ module _ (t : List ℕ) (good : Good t) (xs : List (List ℕ)) (p : ℕ) (h : p 
     nobody = nobody-cell;
     all-equal = equal-cell;
     two-differ = differ-cell;
-    missing = λ e none. grown-reads t good xs p h e judged.Missing (replicate (lengthOf t (rowOf t p)) (pos 0)) (ap (judge e t (rowOf t p)) (nobody-cell none)) refl;
-    contested = λ e d. grown-reads t good xs p h e judged.Contested (replicate (lengthOf t (rowOf t p)) (pos 0)) (ap (judge e t (rowOf t p)) (differ-cell d)) refl;
+    missing = λ none.
+        grown-reads t good xs p h judged.Missing (replicate (lengthFor t p) (pos 0)) (ap (judge (rowFor t p) (rowOf t p)) (nobody-cell none)) refl;
+    contested = λ d.
+        grown-reads t good xs p h judged.Contested (replicate (lengthFor t p) (pos 0)) (ap (judge (rowFor t p) (rowOf t p)) (differ-cell d)) refl;
   }

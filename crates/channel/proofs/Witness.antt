@@ -12,23 +12,22 @@ use Rattle.counts.specs.Counts.{N, binomial, D, S, B, sumAfter, rangeSize, rang
 use Rattle.counts.specs.Width.{width, bitsFrom}
 use Rattle.enumeration.specs.Product.{patternIndex, shapeOffset, shapeIndex, signIndex, weigh, productIndex}
 use Rattle.enumeration.specs.Reading.{rangeFrom, rangeOf, patternOf, firstMagnitude, shapeLeft, shapeOf, signsOf, pointFrom, pointIn, productPoint}
-use Rattle.enumeration.proofs.Product.{product}
 use Rattle.floats.specs.Exact.{over256}
 use Rattle.floats.specs.Nearest.{nearestWhole}
 use Rattle.floats.specs.Units.{ofPattern, unitsOf, unusableCoefficient, negative}
 use Rattle.tables.specs.Example.{wholeCase}
-use Rattle.tables.specs.Row.{byteOf, badRadius, badRadii, badRow}
-use Rattle.tables.specs.Table.{placesBefore, rowsBefore}
+use Rattle.tables.specs.Row.{byteOf, enumerationOf, badRadius, badRadii, badRow}
+use Rattle.tables.specs.Table.{rowAt, placesBefore, rowsBefore}
 use Rattle.shares.specs.Best.{firstBest}
 use Rattle.shares.specs.Shares.{largest, give, shared}
-use Rattle.records.specs.Record.{recordOf}
+use Rattle.records.specs.Record.{recordOf, sameBytes}
+use Rattle.records.proofs.Same.{bytes-same}
 use Rattle.coefficients.specs.Example.{vector}
 use Rattle.coefficients.specs.Radius.{chosenRadiusNumber}
-use Rattle.rules.specs.Cell.{cell, setCell, sameBytes}
+use Rattle.layout.specs.Layout.{stateAt, recordAt, setCell}
 use Rattle.rules.specs.Example.{of, first, other}
 use Rattle.rules.specs.Taking.{claims, badCell, takeCell, arrive, after, grown, AllEqual}
 use Rattle.rules.specs.Judging.{judgeCodeword, judgeRecord, judge}
-use Rattle.rules.proofs.CellRule.{bytes-same}
 use Rattle.channel.specs.Demand3.{SoundWith, Bytes, PageSent}
 use Rattle.channel.specs.Witness.{sent, turned, arrivals, Witness}
 use Rattle.channel.proofs.Sent.{shown-as-sent, only-signs-change}
@@ -58,13 +57,13 @@ each-byte n h (suc i) = lit< tt
 
 -- both places of the table
 each-sent : PageSent wholeCase (λ p. vector) (λ p. of p 0 1 5) (λ p. sent)
-unfolding toBits lt N binomial D S B sumAfter rangeSize rangeStart patternIndex shapeOffset shapeIndex signIndex weigh productIndex nearestWhole ofPattern unitsOf unusableCoefficient negative byteOf badRadius badRadii badRow placesBefore rowsBefore firstBest largest give shared recordOf chosenRadiusNumber
+unfolding toBits lt N binomial D S B sumAfter rangeSize rangeStart patternIndex shapeOffset shapeIndex signIndex weigh productIndex nearestWhole ofPattern unitsOf unusableCoefficient negative byteOf enumerationOf badRadius badRadii badRow rowAt placesBefore rowsBefore firstBest largest give shared recordOf chosenRadiusNumber
 each-sent zero h = record { lent = replicate 8 9; accepted = refl; written = refl; point = refl }
 each-sent (suc zero) h = record { lent = replicate 8 9; accepted = refl; written = refl; point = refl }
 each-sent (suc (suc p)) h = absurd (omega arith)
 
 pub witness : Witness
-unfolding onlyClaims claims toBits round lt N binomial D S B sumAfter rangeSize rangeStart width bitsFrom patternIndex shapeOffset shapeIndex signIndex weigh productIndex rangeFrom rangeOf patternOf firstMagnitude shapeLeft shapeOf signsOf pointFrom pointIn productPoint over256 nearestWhole ofPattern unitsOf unusableCoefficient negative byteOf badRadius badRadii badRow placesBefore rowsBefore firstBest largest give shared recordOf chosenRadiusNumber cell setCell badCell takeCell arrive after judgeCodeword judgeRecord judge
+unfolding onlyClaims claims toBits round lt N binomial D S B sumAfter rangeSize rangeStart width bitsFrom patternIndex shapeOffset shapeIndex signIndex weigh productIndex rangeFrom rangeOf patternOf firstMagnitude shapeLeft shapeOf signsOf pointFrom pointIn productPoint over256 nearestWhole ofPattern unitsOf unusableCoefficient negative byteOf enumerationOf badRadius badRadii badRow rowAt placesBefore rowsBefore firstBest largest give shared recordOf chosenRadiusNumber stateAt recordAt setCell badCell takeCell arrive after judgeCodeword judgeRecord judge
 witness = record {
   is-sent = record { lent = replicate 8 9; accepted = refl; written = refl; point = refl };
   is-read = record {
@@ -89,10 +88,10 @@ witness = record {
   page-sent = each-sent;
 }
 
-pub sound-here : SoundWith product wholeCase (grown wholeCase (arrivals first)) 0 sent
+pub sound-here : SoundWith wholeCase (grown wholeCase (arrivals first)) 0 sent
 sound-here = shown-as-sent wholeCase 0 vector first sent (witness .is-sent) (arrivals first) (witness .is-read .among) (witness .is-read .equal)
 
-pub turned-here : SoundWith product wholeCase (grown wholeCase (arrivals other)) 0 turned
+pub turned-here : SoundWith wholeCase (grown wholeCase (arrivals other)) 0 turned
 turned-here =
     rw (witness .is-turned) at
     (only-signs-change wholeCase 0 vector first sent (witness .is-sent) 7 (witness .low-bits) (arrivals other) (witness .turned-read .among)

@@ -5,27 +5,26 @@ use Prim.Native.Nat.{ℕ, suc}
 use mathlib.Core.Path.{_≡_}
 use mathlib.Core.List.{List, [], _∷_, map, List·Memᴰ}
 use mathlib.Core.Logic.{_↔_}
-use lib.Dec.{ltb}
 use lib.Ieee.{Float}
 use lib.IntN.{ℤ}
 use lib.ListN.{length}
-use Rattle.answers.specs.Checks.{Check, numberSaid, anyOf, failsOf, eachFrom, Refuses, Passes}
+use Rattle.answers.specs.Checks.{Check, numberSaid, anyOf, failsOf, lengthCheck, eachFrom, Refuses, Passes}
+use Rattle.counts.specs.Counts.{N}
 use Rattle.tables.specs.Usable.{shellChecks}
 use Rattle.shell.specs.Shell.{countMeaning, countSays}
-use Rattle.enumeration.specs.Enumeration.{Enumeration}
 use Rattle.points.specs.Calls.{indexChecks, indexMeaning, indexSays, pointChecks, pointMeaning, pointSays, pointLeaves}
-use Rattle.tables.specs.Row.{lengthOf}
-use Rattle.tables.specs.Table.{placesIn, tableChecks, checkSays, noSuchPlace, rowOf}
+use Rattle.tables.specs.Table.{placesIn, tableChecks, checkSays, placeCheck, rowFor, lengthFor}
 use Rattle.pairing.specs.Meanings.{checkMeaning}
+use Rattle.records.specs.Record.{recordCheck, placeIn}
 use Rattle.coefficients.specs.Coefficients.{usableChecks}
-use Rattle.quantizer.specs.Calls.{quantizeChecks, quantizeLeaves, quantizeMeaning, quantizeSays, wrongLengths}
-use Rattle.rules.specs.Cell.{wrongPage}
-use Rattle.rules.specs.Taking.{takeRest, takeChecks, takeSays, takeLeaves}
-use Rattle.rules.specs.Reading.{readRest, readChecks, readSays, readLeaves, coefficientRest, coefficientChecks, coefficientSays, coefficientCarries}
-use Rattle.rules.specs.Tallying.{cellCheck, tallyChecks, tallySays}
+use Rattle.quantizer.specs.Calls.{quantizeChecks, quantizeLeaves, quantizeMeaning, quantizeSays}
+use Rattle.layout.specs.Layout.{cellAt}
+use Rattle.rules.specs.Taking.{pageCheck, cellCheck, cellCheckAt, takeChecks, takeSays, takeLeaves}
+use Rattle.rules.specs.Reading.{readChecks, readSays, readLeaves, coordinateCheck, coefficientChecks, coefficientSays, coefficientCarries}
+use Rattle.rules.specs.Tallying.{tallyChecks, tallySays}
 use Rattle.page.specs.Meanings.{takeMeaning, readMeaning, coefficientMeaning, coefficientValues, tallyMeaning}
 use Rattle.page.specs.declared.Valued.{Valued}
-use Rattle.report.specs.Calls.{lineSpace, noRoom, linesIn, linesChecks, linesSays, linesLeaves, lineSays, lineLeaves, listedMeaning, linedMeaning}
+use Rattle.report.specs.Calls.{noRoom, linesFit, linesChecks, linesSays, linesLeaves, lineSays, lineLeaves, listedMeaning, linedMeaning}
 
 -- several checks of one number are one condition: it holds if any of them fails
 abbrev pub condition : ℕ → List Check → Check
@@ -35,27 +34,43 @@ condition n cs = record { number = n; values = []; fails = anyOf (failsOf cs) }
 abbrev pub numbersOf : List Check → List ℕ
 numbersOf cs = map (λ (c : Check). c .number) cs
 
--- the conditions of a call whose checks begin with those of its table, 7, and what quantize, the tally and the lines check after them: 11 is given for
--- any coefficient, and 12 for any cell
+-- the conditions of a call whose checks begin with those of its table, 7, and what each call checks after them: 4 is given for any buffer of a wrong
+-- length, 11 for any coefficient, and 12 for any cell
 abbrev pub withTable : List ℕ → List Check → List Check
 withTable t conditions = condition 7 (tableChecks t) ∷ conditions
 
 abbrev pub quantizeConditions : List ℕ → ℕ → List Float → ℕ → List Check
 quantizeConditions t p w b =
-    record { number = 8; values = []; fails = noSuchPlace t p }
-    ∷ record { number = 4; values = []; fails = wrongLengths (lengthOf t (rowOf t p)) (length w) b }
+    placeCheck t p
+    ∷ condition 4 (lengthCheck (length w) (lengthFor t p) ∷ recordCheck b ∷ [])
     ∷ condition 11 (usableChecks w)
     ∷ []
 
+abbrev pub takeConditions : List ℕ → List ℕ → List ℕ → List Check
+takeConditions t pg x =
+    condition 4 (pageCheck t pg ∷ recordCheck (length x) ∷ [])
+    ∷ placeCheck t (placeIn x)
+    ∷ cellCheck (placeIn x) (cellAt pg (placeIn x))
+    ∷ []
+
+abbrev pub readConditions : List ℕ → List ℕ → ℕ → ℕ → List Check
+readConditions t pg p b =
+    placeCheck t p
+    ∷ condition 4 (pageCheck t pg ∷ lengthCheck b (lengthFor t p) ∷ [])
+    ∷ cellCheck p (cellAt pg p)
+    ∷ []
+
+abbrev pub coefficientConditions : List ℕ → List ℕ → ℕ → ℕ → List Check
+coefficientConditions t pg p i = placeCheck t p ∷ pageCheck t pg ∷ coordinateCheck (rowFor t p) i ∷ cellCheck p (cellAt pg p) ∷ []
+
 abbrev pub tallyConditions : List ℕ → List ℕ → List Check
-tallyConditions t pg =
-    record { number = 4; values = []; fails = wrongPage (placesIn t) (length pg) } ∷ condition 12 (eachFrom (cellCheck pg) 0 (placesIn t)) ∷ []
+tallyConditions t pg = pageCheck t pg ∷ condition 12 (eachFrom (cellCheckAt pg) 0 (placesIn t)) ∷ []
 
 abbrev pub linesConditions : List ℕ → List ℕ → ℕ → ℕ → List Check
 linesConditions t pg p b =
-    record { number = 8; values = []; fails = noSuchPlace t p }
-    ∷ record { number = 4; values = []; fails = anyOf (wrongPage (placesIn t) (length pg) ∷ ltb b lineSpace ∷ []) }
-    ∷ condition 12 (eachFrom (cellCheck pg) p (linesIn t p b))
+    placeCheck t p
+    ∷ condition 4 (pageCheck t pg ∷ noRoom b ∷ [])
+    ∷ condition 12 (eachFrom (cellCheckAt pg) p (linesFit t p b))
     ∷ []
 
 -- A call's refusals: `order` is what document 01 prints under "Order of checks", `conditions` says when each number is given, `checks` what is named
@@ -79,9 +94,9 @@ Unchanged says afterwards held = (n : ℕ) → numberSaid says ≡ suc n → aft
 abbrev pub Determined : {A : Type 0} → (A → List ℕ) → List ℕ → Type 0
 Determined {A} meaningOf says = (r r′ : A) → meaningOf r ≡ says → meaningOf r′ ≡ says → r ≡ r′
 
-pub record Demand1 (e : Enumeration) : Type 0 where
+pub record Demand1 : Type 0 where
   -- Count: 1, 2, 3
-  pub count : (l k : ℕ) → Refusing (1 ∷ 2 ∷ 3 ∷ []) (shellChecks l k) (shellChecks l k) (countSays l k)
+  pub count : (l k : ℕ) → Refusing (1 ∷ 2 ∷ 3 ∷ []) (shellChecks l k (N l k)) (shellChecks l k (N l k)) (countSays l k)
   pub count-determined : (l k : ℕ) → Determined countMeaning (countSays l k)
   -- Index: 1, 2, 3, 4, 5
   pub index : (l k : ℕ) (x : List ℤ) → Refusing (1 ∷ 2 ∷ 3 ∷ 4 ∷ 5 ∷ []) (indexChecks l k x) (indexChecks l k x) (indexSays l k x)
@@ -102,29 +117,29 @@ pub record Demand1 (e : Enumeration) : Type 0 where
   pub quantize-determined : (t : List ℕ) (p : ℕ) (w : List Float) (out : List ℕ)
       → Determined quantizeMeaning (quantizeSays t p w out)
   -- Take: 7, 4, 8, 12
-  pub take : (t pg x : List ℕ) → Refusing (7 ∷ 4 ∷ 8 ∷ 12 ∷ []) (withTable t (takeRest t pg x)) (takeChecks t pg x) (takeSays t pg x)
+  pub take : (t pg x : List ℕ) → Refusing (7 ∷ 4 ∷ 8 ∷ 12 ∷ []) (withTable t (takeConditions t pg x)) (takeChecks t pg x) (takeSays t pg x)
   pub take-unchanged : (t pg x : List ℕ) → Unchanged (takeSays t pg x) (takeLeaves t pg x) pg
   pub take-determined : (t pg x : List ℕ) → Determined takeMeaning (takeSays t pg x)
   -- Read a place: 7, 8, 4, 12
   pub read : (t pg : List ℕ) (p : ℕ) (out : List ℤ)
-      → Refusing (7 ∷ 8 ∷ 4 ∷ 12 ∷ []) (withTable t (readRest t pg p (length out))) (readChecks t pg p (length out)) (readSays e t pg p out)
-  pub read-unchanged : (t pg : List ℕ) (p : ℕ) (out : List ℤ) → Unchanged (readSays e t pg p out) (readLeaves e t pg p out) out
-  pub read-determined : (t pg : List ℕ) (p : ℕ) (out : List ℤ) → Determined readMeaning (readSays e t pg p out)
+      → Refusing (7 ∷ 8 ∷ 4 ∷ 12 ∷ []) (withTable t (readConditions t pg p (length out))) (readChecks t pg p (length out)) (readSays t pg p out)
+  pub read-unchanged : (t pg : List ℕ) (p : ℕ) (out : List ℤ) → Unchanged (readSays t pg p out) (readLeaves t pg p out) out
+  pub read-determined : (t pg : List ℕ) (p : ℕ) (out : List ℤ) → Determined readMeaning (readSays t pg p out)
   -- One coefficient: 7, 8, 4, 13, 12; a refusal carries no value
   pub coefficient : (t pg : List ℕ) (p i : ℕ)
-      → Refusing (7 ∷ 8 ∷ 4 ∷ 13 ∷ 12 ∷ []) (withTable t (coefficientRest t pg p i)) (coefficientChecks t pg p i) (coefficientSays e t pg p i)
-  pub coefficient-none : (t pg : List ℕ) (p i : ℕ) → Unchanged (coefficientSays e t pg p i) (coefficientCarries e t pg p i) []
+      → Refusing (7 ∷ 8 ∷ 4 ∷ 13 ∷ 12 ∷ []) (withTable t (coefficientConditions t pg p i)) (coefficientChecks t pg p i) (coefficientSays t pg p i)
+  pub coefficient-none : (t pg : List ℕ) (p i : ℕ) → Unchanged (coefficientSays t pg p i) (coefficientCarries t pg p i) []
   pub coefficient-determined : (t pg : List ℕ) (p i : ℕ) (r r′ : Valued)
-      → coefficientMeaning r ≡ coefficientSays e t pg p i → coefficientValues r ≡ coefficientCarries e t pg p i
-      → coefficientMeaning r′ ≡ coefficientSays e t pg p i → coefficientValues r′ ≡ coefficientCarries e t pg p i → r ≡ r′
+      → coefficientMeaning r ≡ coefficientSays t pg p i → coefficientValues r ≡ coefficientCarries t pg p i
+      → coefficientMeaning r′ ≡ coefficientSays t pg p i → coefficientValues r′ ≡ coefficientCarries t pg p i → r ≡ r′
   -- Tally: 7, 4, 12
-  pub tally : (t pg : List ℕ) → Refusing (7 ∷ 4 ∷ 12 ∷ []) (withTable t (tallyConditions t pg)) (tallyChecks t pg) (tallySays e t pg)
-  pub tally-determined : (t pg : List ℕ) → Determined tallyMeaning (tallySays e t pg)
+  pub tally : (t pg : List ℕ) → Refusing (7 ∷ 4 ∷ 12 ∷ []) (withTable t (tallyConditions t pg)) (tallyChecks t pg) (tallySays t pg)
+  pub tally-determined : (t pg : List ℕ) → Determined tallyMeaning (tallySays t pg)
   -- The calls of the listing, which document 01 does not number: lines as reading a place, 7, 8, 4, 12; one line of a known text, 4
   pub lines : (t pg : List ℕ) (p : ℕ) (held : List ℕ)
-      → Refusing (7 ∷ 8 ∷ 4 ∷ 12 ∷ []) (withTable t (linesConditions t pg p (length held))) (linesChecks t pg p (length held)) (linesSays e t pg p held)
-  pub lines-unchanged : (t pg : List ℕ) (p : ℕ) (held : List ℕ) → Unchanged (linesSays e t pg p held) (linesLeaves e t pg p held) held
-  pub lines-determined : (t pg : List ℕ) (p : ℕ) (held : List ℕ) → Determined listedMeaning (linesSays e t pg p held)
+      → Refusing (7 ∷ 8 ∷ 4 ∷ 12 ∷ []) (withTable t (linesConditions t pg p (length held))) (linesChecks t pg p (length held)) (linesSays t pg p held)
+  pub lines-unchanged : (t pg : List ℕ) (p : ℕ) (held : List ℕ) → Unchanged (linesSays t pg p held) (linesLeaves t pg p held) held
+  pub lines-determined : (t pg : List ℕ) (p : ℕ) (held : List ℕ) → Determined listedMeaning (linesSays t pg p held)
   pub line : (text held : List ℕ) → Refusing (4 ∷ []) (noRoom (length held) ∷ []) (noRoom (length held) ∷ []) (lineSays text held)
   pub line-unchanged : (text held : List ℕ) → Unchanged (lineSays text held) (lineLeaves text held) held
   pub line-determined : (text held : List ℕ) → Determined linedMeaning (lineSays text held)

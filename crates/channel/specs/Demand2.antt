@@ -1,5 +1,5 @@
 -- Demand 2, indices, records and answers. What is said of indices is said of the product enumeration, by which both workshops number the points;
--- what is said of a page, of any enumeration that is one to one below its total. Assumes nothing.
+-- what is said of a page, of the enumeration of each place's row. Assumes nothing.
 use Prim.Native.Nat.{ℕ, suc, _*_, _^_, _≤_, _<_, _∣_}
 use mathlib.Core.Path.{_≡_}
 use mathlib.Core.List.{List, [], _∷_, _++_}
@@ -10,7 +10,6 @@ use lib.IntN.{ℤ, pos}
 use lib.ListN.{length, getD}
 use Rattle.answers.specs.Checks.{numberSaid}
 use Rattle.counts.specs.Counts.{N, R, O, mostNonzero, sumAfter}
-use Rattle.enumeration.specs.Enumeration.{Enumeration}
 use Rattle.enumeration.specs.Point.{OnShell, isNonzero, isNegative, nonzerosIn, sumOf}
 use Rattle.enumeration.specs.Product.{productIndex}
 use Rattle.enumeration.specs.Reading.{bit, productPoint}
@@ -19,10 +18,10 @@ use Rattle.floats.specs.Exact.{IsOver256}
 use Rattle.floats.specs.Nearest.{nearestWhole, IsNearest}
 use Rattle.floats.specs.Units.{unitsOf}
 use Rattle.tables.specs.Usable.{IsUsable}
-use Rattle.tables.specs.Row.{lengthOf, radiiOf, radiusAt}
-use Rattle.tables.specs.Table.{placesIn, Good, rowOf, InRow}
+use Rattle.tables.specs.Row.{radiiOf, radiusAt}
+use Rattle.tables.specs.Table.{placesIn, Good, rowOf, rowFor, lengthFor, InRow}
 use Rattle.records.specs.Record.{Holds}
-use Rattle.coding.specs.Coded.{numberFor, radiusFor, pointFor}
+use Rattle.coding.specs.Coded.{radiusNumberFor, radiusFor, pointFor}
 use Rattle.quantizer.specs.Calls.{quantizeSays, quantizeLeaves}
 use Rattle.coefficients.specs.Points.{totalOf, IsPointOf}
 use Rattle.coefficients.specs.Radius.{missBy}
@@ -32,7 +31,7 @@ use Rattle.rules.specs.Tallying.{countOf, tallySays}
 use Rattle.channel.specs.Demand3.{Bytes, scaled}
 
 -- ---- counts, indices and points
-pub record Numbering (l k : ℕ) : Type 0 where
+pub record NumbersPoints (l k : ℕ) : Type 0 where
   -- a point of the shell has an index below N, and the point of that index is it
   pub there : (x : List ℤ) → OnShell l k x → (productIndex x < N l k) × (productPoint l k (productIndex x) ≡ x)
   -- an index below N gives a point of the shell, and its index is that number
@@ -60,47 +59,47 @@ pub record CallsUndo (l k : ℕ) : Type 0 where
 -- What quantize writes for w at place p, if it accepts them: the record r.
 pub record Quantizes (t : List ℕ) (p : ℕ) (w : List Float) (r : List ℕ) : Type 0 where
   -- place, row, radius number and the index of the point; and the row is the place's
-  pub fields : Holds r p (rowOf t p) (numberFor t (rowOf t p) w) (productIndex (pointFor t (rowOf t p) w))
+  pub fields : Holds r p (rowOf t p) (radiusNumberFor (rowFor t p) w) (productIndex (pointFor (rowFor t p) w))
   pub its-row : InRow t p (rowOf t p)
   -- the whole number of a coefficient is the n with the least |256 X - n 2^149|, the even one of two
   pub nearest : (i : ℕ) → i < length w → IsNearest (256 * unitsOf (getD w i nan)) (2 ^ 149) (nearestWhole (getD w i nan))
   -- the radius is one of the row's, and the first that is least
-  pub in-row : numberFor t (rowOf t p) w < radiiOf t (rowOf t p)
-  pub least : (n : ℕ) → n < radiiOf t (rowOf t p) → missBy t (rowOf t p) (totalOf w) (numberFor t (rowOf t p) w) ≤ missBy t (rowOf t p) (totalOf w) n
-  pub first : (n : ℕ) → n < radiiOf t (rowOf t p) → missBy t (rowOf t p) (totalOf w) n ≡ missBy t (rowOf t p) (totalOf w) (numberFor t (rowOf t p) w)
-      → radiusFor t (rowOf t p) w ≤ radiusAt t (rowOf t p) n
+  pub in-row : radiusNumberFor (rowFor t p) w < radiiOf (rowFor t p)
+  pub least : (n : ℕ) → n < radiiOf (rowFor t p) → missBy (rowFor t p) (totalOf w) (radiusNumberFor (rowFor t p) w) ≤ missBy (rowFor t p) (totalOf w) n
+  pub first : (n : ℕ) → n < radiiOf (rowFor t p) → missBy (rowFor t p) (totalOf w) n ≡ missBy (rowFor t p) (totalOf w) (radiusNumberFor (rowFor t p) w)
+      → radiusFor (rowFor t p) w ≤ radiusAt (rowFor t p) n
   -- the point's magnitudes sum to it
-  pub on-shell : OnShell (lengthOf t (rowOf t p)) (radiusFor t (rowOf t p) w) (pointFor t (rowOf t p) w)
+  pub on-shell : OnShell (lengthFor t p) (radiusFor (rowFor t p) w) (pointFor (rowFor t p) w)
   -- they are the whole parts, with one more for each of the largest remainders, and a coordinate is 0 or has its coefficient's sign; no other point is so
-  pub point : IsPointOf (radiusFor t (rowOf t p) w) w (pointFor t (rowOf t p) w)
-  pub only-point : (q : List ℤ) → IsPointOf (radiusFor t (rowOf t p) w) w q → q ≡ pointFor t (rowOf t p) w
+  pub point : IsPointOf (radiusFor (rowFor t p) w) w (pointFor (rowFor t p) w)
+  pub only-point : (q : List ℤ) → IsPointOf (radiusFor (rowFor t p) w) w q → q ≡ pointFor (rowFor t p) w
   -- a coordinate is 0 where the coefficient's whole number is
-  pub zeros : (i : ℕ) → i < length w → nearestWhole (getD w i nan) ≡ 0 → getD (pointFor t (rowOf t p) w) i (pos 0) ≡ pos 0
+  pub zeros : (i : ℕ) → i < length w → nearestWhole (getD w i nan) ≡ 0 → getD (pointFor (rowFor t p) w) i (pos 0) ≡ pos 0
 
 abbrev pub QuantizeWrites : Type 0
 QuantizeWrites = (t : List ℕ) (p : ℕ) (w : List Float) (out : List ℕ) → quantizeSays t p w out ≡ 0 ∷ [] → Quantizes t p w (quantizeLeaves t p w out)
 
 -- ---- answers
 -- What a place of a good table shows, on any page, by the one definition that reader, coefficient and tally go by.
-pub record Answers (e : Enumeration) (t pg : List ℕ) (p : ℕ) : Type 0 where
+pub record Answers (t pg : List ℕ) (p : ℕ) : Type 0 where
   -- a point that is shown, mended or not, has an index below the total of a usable shell
-  pub shows : Shows e (lengthOf t (rowOf t p)) (judgeAt e t pg p)
+  pub shows : Shows (rowFor t p) (judgeAt t pg p)
   -- a value v is exactly coordinate x step / 256, and zero is positive zero
-  pub exact : Bytes t → (i : ℕ) → IsOver256 (scaled t p (shown e (lengthOf t (rowOf t p)) (judgeAt e t pg p)) i) (valueAt e t pg p i)
+  pub exact : Bytes t → (i : ℕ) → IsOver256 (scaled t p (shown (rowFor t p) (judgeAt t pg p)) i) (valueAt t pg p i)
 
 -- tally j is the number of places whose answer is j, and the five sum to the number of places
-pub record Tallies (e : Enumeration) (t pg : List ℕ) : Type 0 where
+pub record Tallies (t pg : List ℕ) : Type 0 where
   pub counts : List ℕ
-  pub said : tallySays e t pg ≡ 0 ∷ counts
-  pub each : (j : ℕ) → j < 5 → getD counts j 0 ≡ countOf (λ (p : ℕ). answerNumber (judgeAt e t pg p)) j (placesIn t)
+  pub said : tallySays t pg ≡ 0 ∷ counts
+  pub each : (j : ℕ) → j < 5 → getD counts j 0 ≡ countOf (λ (p : ℕ). answerNumber (judgeAt t pg p)) j (placesIn t)
   pub sum : sumOf counts ≡ placesIn t
 
 -- ---- all of demand 2
 pub record Demand2 : Type 0 where
   pub counts : CountsSum
-  pub numbering : (l k : ℕ) → Numbering l k
+  pub numbering : (l k : ℕ) → NumbersPoints l k
   pub bits : BitOfCoordinate
-  pub calls-undo : (l k : ℕ) → IsUsable l k → CallsUndo l k
+  pub calls-undo : (l k : ℕ) → IsUsable l k (N l k) → CallsUndo l k
   pub quantize-writes : QuantizeWrites
-  pub answers : (e : Enumeration) (t : List ℕ) → Good t → (pg : List ℕ) (p : ℕ) → p < placesIn t → Answers e t pg p
-  pub tallies : (e : Enumeration) (t pg : List ℕ) → numberSaid (tallySays e t pg) ≡ 0 → Tallies e t pg
+  pub answers : (t : List ℕ) → Good t → (pg : List ℕ) (p : ℕ) → p < placesIn t → Answers t pg p
+  pub tallies : (t pg : List ℕ) → numberSaid (tallySays t pg) ≡ 0 → Tallies t pg

@@ -10,18 +10,16 @@ use lib.Ieee.{Float}
 use lib.IntN.{ℤ, pos, _*ℤ_}
 use lib.ListN.{length, getD, take, replicate}
 use Rattle.answers.specs.Checks.{numberSaid}
-use Rattle.enumeration.specs.Enumeration.{Enumeration}
 use Rattle.enumeration.specs.Point.{nonzerosIn}
 use Rattle.enumeration.specs.Product.{productIndex}
 use Rattle.enumeration.specs.Signs.{flipped}
-use Rattle.enumeration.proofs.Product.{product}
 use Rattle.floats.specs.Exact.{over256, IsOver256}
-use Rattle.tables.specs.Row.{lengthOf, stepOf}
-use Rattle.tables.specs.Table.{placesIn, Good, rowOf}
+use Rattle.tables.specs.Row.{stepOf}
+use Rattle.tables.specs.Table.{placesIn, Good, rowOf, rowFor, lengthFor}
 use Rattle.octets.specs.Octets.{highFirst}
 use Rattle.coding.specs.Coded.{pointFor}
 use Rattle.quantizer.specs.Calls.{quantizeSays, quantizeLeaves}
-use Rattle.rules.specs.Cell.{cell}
+use Rattle.layout.specs.Layout.{cellAt}
 use Rattle.rules.specs.Taking.{claims, Received, after, grown, Nobody, AllEqual, takeSays}
 use Rattle.rules.specs.Judging.{judge, shown}
 use Rattle.rules.specs.Reading.{readSays, readLeaves, coefficientSays, coefficientCarries}
@@ -50,28 +48,28 @@ WhatCame t xs p = Nobody t xs p ⊎ (((y : List ℕ) × OnlyCame t xs p y) ⊎ T
 
 -- ---- what is read of a place
 -- an answer by its number and reason, a point or zeros, and what each coefficient carries, with a buffer of the right length and every coordinate
-pub record Reads (e : Enumeration) (t pg : List ℕ) (p answer reason : ℕ) (q : List ℤ) (carries : ℕ → List Float) : Type 0 where
-  pub read-says : (out : List ℤ) → length out ≡ lengthOf t (rowOf t p) → readSays e t pg p out ≡ 0 ∷ answer ∷ reason ∷ []
-  pub read-leaves : (out : List ℤ) → length out ≡ lengthOf t (rowOf t p) → readLeaves e t pg p out ≡ q
-  pub coefficient-says : (i : ℕ) → i < lengthOf t (rowOf t p) → coefficientSays e t pg p i ≡ 0 ∷ answer ∷ reason ∷ []
-  pub coefficient-carries : (i : ℕ) → i < lengthOf t (rowOf t p) → coefficientCarries e t pg p i ≡ carries i
+pub record Reads (t pg : List ℕ) (p answer reason : ℕ) (q : List ℤ) (carries : ℕ → List Float) : Type 0 where
+  pub read-says : (out : List ℤ) → length out ≡ lengthFor t p → readSays t pg p out ≡ 0 ∷ answer ∷ reason ∷ []
+  pub read-leaves : (out : List ℤ) → length out ≡ lengthFor t p → readLeaves t pg p out ≡ q
+  pub coefficient-says : (i : ℕ) → i < lengthFor t p → coefficientSays t pg p i ≡ 0 ∷ answer ∷ reason ∷ []
+  pub coefficient-carries : (i : ℕ) → i < lengthFor t p → coefficientCarries t pg p i ≡ carries i
 
 -- coordinate x step, and its value: that over 256, as f32
 abbrev pub scaled : List ℕ → ℕ → List ℤ → ℕ → ℤ
-scaled t p q i = getD q i (pos 0) *ℤ pos (stepOf t (rowOf t p))
+scaled t p q i = getD q i (pos 0) *ℤ pos (stepOf (rowFor t p))
 
 -- a table is bytes
 abbrev pub Bytes : List ℕ → Type 0
 Bytes t = (i : ℕ) → getD t i 0 < 256
 
 -- sound, with point q: each coefficient has its value, which is exact
-pub record SoundWith (e : Enumeration) (t pg : List ℕ) (p : ℕ) (q : List ℤ) : Type 0 where
-  pub reads : Reads e t pg p 0 0 q (λ i. over256 (scaled t p q i) ∷ [])
+pub record SoundWith (t pg : List ℕ) (p : ℕ) (q : List ℤ) : Type 0 where
+  pub reads : Reads t pg p 0 0 q (λ i. over256 (scaled t p q i) ∷ [])
   pub exact : Bytes t → (i : ℕ) → IsOver256 (scaled t p q i) (over256 (scaled t p q i))
 
 -- no point: zeros, and no coefficient has a value
-abbrev pub Blank : Enumeration → List ℕ → List ℕ → ℕ → ℕ → Type 0
-Blank e t pg p answer = Reads e t pg p answer 0 (replicate (lengthOf t (rowOf t p)) (pos 0)) (λ i. [])
+abbrev pub Blank : List ℕ → List ℕ → ℕ → ℕ → Type 0
+Blank t pg p answer = Reads t pg p answer 0 (replicate (lengthFor t p) (pos 0)) (λ i. [])
 
 -- a point is shown: sound or mended
 abbrev pub ShowsPoint : List ℕ → Type 0
@@ -82,35 +80,35 @@ ShowsPoint says = (says ≡ 0 ∷ 0 ∷ 0 ∷ []) ⊎ (says ≡ 0 ∷ 1 ∷ 0 �
 abbrev pub AnyOrder : Type 0
 AnyOrder = (t : List ℕ) (s : Received) (xs ys : List (List ℕ)) → List·Permᴰ xs ys → after t s xs ≡ after t s ys
 
--- ---- b. The cell of a place, from an empty page on, is told by what claims it: nine zeros, held with the 8 bytes, or contested, its 8 bytes zero; and
--- "a damaged place is told as damaged".
+-- ---- b. The cell of a place, from an empty page on, is told by what claims it: empty, its 8 bytes zero, held with the 8 bytes, or contested, its
+-- 8 bytes zero; and "a damaged place is told as damaged".
 pub record CellTold (t : List ℕ) (xs : List (List ℕ)) (p : ℕ) : Type 0 where
   pub what-came : WhatCame t xs p
-  pub nobody : Nobody t xs p → cell (grown t xs) p ≡ replicate 9 0
-  pub all-equal : (y : List ℕ) → OnlyCame t xs p y → cell (grown t xs) p ≡ 1 ∷ y
-  pub two-differ : TwoDiffer t xs p → cell (grown t xs) p ≡ 2 ∷ replicate 8 0
+  pub nobody : Nobody t xs p → cellAt (grown t xs) p ≡ record { state = 0; bytes = replicate 8 0 }
+  pub all-equal : (y : List ℕ) → OnlyCame t xs p y → cellAt (grown t xs) p ≡ record { state = 1; bytes = y }
+  pub two-differ : TwoDiffer t xs p → cellAt (grown t xs) p ≡ record { state = 2; bytes = replicate 8 0 }
   -- so it is read as missing, 2, and as contested, 3
-  pub missing : (e : Enumeration) → Nobody t xs p → Blank e t (grown t xs) p 2
-  pub contested : (e : Enumeration) → TwoDiffer t xs p → Blank e t (grown t xs) p 3
+  pub missing : Nobody t xs p → Blank t (grown t xs) p 2
+  pub contested : TwoDiffer t xs p → Blank t (grown t xs) p 3
 
 -- a page grown from empty never gives 12, in any call that could, whatever the table
-pub record Never12 (e : Enumeration) (t : List ℕ) (xs : List (List ℕ)) : Type 0 where
+pub record Never12 (t : List ℕ) (xs : List (List ℕ)) : Type 0 where
   pub take : (x : List ℕ) → numberSaid (takeSays t (grown t xs) x) ≡ 12 → ⊥
-  pub read : (p : ℕ) (out : List ℤ) → numberSaid (readSays e t (grown t xs) p out) ≡ 12 → ⊥
-  pub coefficient : (p i : ℕ) → numberSaid (coefficientSays e t (grown t xs) p i) ≡ 12 → ⊥
-  pub tally : numberSaid (tallySays e t (grown t xs)) ≡ 12 → ⊥
+  pub read : (p : ℕ) (out : List ℤ) → numberSaid (readSays t (grown t xs) p out) ≡ 12 → ⊥
+  pub coefficient : (p i : ℕ) → numberSaid (coefficientSays t (grown t xs) p i) ≡ 12 → ⊥
+  pub tally : numberSaid (tallySays t (grown t xs)) ≡ 12 → ⊥
 
 -- ---- c and d. What is sent for place p: coefficients w that quantize accepts, the record that it leaves, and its point.
 pub record Sent (t : List ℕ) (p : ℕ) (w : List Float) (r : List ℕ) (q : List ℤ) : Type 0 where
   pub lent : List ℕ
   pub accepted : quantizeSays t p w lent ≡ 0 ∷ []
   pub written : quantizeLeaves t p w lent ≡ r
-  pub point : pointFor t (rowOf t p) w ≡ q
+  pub point : pointFor (rowFor t p) w ≡ q
 
 -- c. "What is shown is what was sent": the record arrives, and all that claim its place are equal to it; then the place is sound with its point.
 abbrev pub ShownAsSent : Type 0
 ShownAsSent = (t : List ℕ) (p : ℕ) (w : List Float) (r : List ℕ) (q : List ℤ) → Sent t p w r q → (xs : List (List ℕ)) → List·Memᴰ r xs
-    → AllEqual t xs p r → SoundWith product t (grown t xs) p q
+    → AllEqual t xs p r → SoundWith t (grown t xs) p q
 
 -- d. The record with a codeword that differs only in the low s bits, s being the number of nonzero coordinates of q, in any set of them: arrived in
 -- the same way, it is sound with q with exactly the coordinates of the differing bits negated.
@@ -120,21 +118,21 @@ withCodeword r codeword = take 4 r ++ highFirst 4 codeword
 abbrev pub OnlySignsChange : Type 0
 OnlySignsChange = (t : List ℕ) (p : ℕ) (w : List Float) (r : List ℕ) (q : List ℤ) → Sent t p w r q
     → (codeword : ℕ) → productIndex q / 2 ^ nonzerosIn q ≡ codeword / 2 ^ nonzerosIn q → (xs : List (List ℕ)) → List·Memᴰ (withCodeword r codeword) xs
-    → AllEqual t xs p (withCodeword r codeword) → SoundWith product t (grown t xs) p (flipped (productIndex q) codeword q)
+    → AllEqual t xs p (withCodeword r codeword) → SoundWith t (grown t xs) p (flipped (productIndex q) codeword q)
 
 -- ---- e. Conversely, by either reader: a place shows a point only if something claimed it and all that claimed it were equal; and it is the point of
 -- that record. So a reading never stands over its neighbour's character because of what came for the neighbour.
-pub record OnlySent (e : Enumeration) (t : List ℕ) (xs : List (List ℕ)) (p : ℕ) : Type 0 where
+pub record OnlySent (t : List ℕ) (xs : List (List ℕ)) (p : ℕ) : Type 0 where
   pub arrived : List ℕ
   pub all-equal : OnlyCame t xs p arrived
-  pub its-point : (out : List ℤ) → length out ≡ lengthOf t (rowOf t p)
-      → readLeaves e t (grown t xs) p out ≡ shown e (lengthOf t (rowOf t p)) (judge e t (rowOf t p) (1 ∷ arrived))
+  pub its-point : (out : List ℤ) → length out ≡ lengthFor t p
+      → readLeaves t (grown t xs) p out ≡ shown (rowFor t p) (judge (rowFor t p) (rowOf t p) (record { state = 1; bytes = arrived }))
 
 abbrev pub ReadOnlySent : Type 0
-ReadOnlySent = (e : Enumeration) (t : List ℕ) (xs : List (List ℕ)) (p : ℕ) (out : List ℤ) → ShowsPoint (readSays e t (grown t xs) p out) → OnlySent e t xs p
+ReadOnlySent = (t : List ℕ) (xs : List (List ℕ)) (p : ℕ) (out : List ℤ) → ShowsPoint (readSays t (grown t xs) p out) → OnlySent t xs p
 
 abbrev pub ValuedOnlySent : Type 0
-ValuedOnlySent = (e : Enumeration) (t : List ℕ) (xs : List (List ℕ)) (p i : ℕ) → ShowsPoint (coefficientSays e t (grown t xs) p i) → OnlySent e t xs p
+ValuedOnlySent = (t : List ℕ) (xs : List (List ℕ)) (p i : ℕ) → ShowsPoint (coefficientSays t (grown t xs) p i) → OnlySent t xs p
 
 -- ---- The demand as the order words it: one good table, an empty page, a written record for every place, and any list of arrivals.
 -- What is sent for a page: for each place p the coefficients w p, which quantize accepts, the record r p that it leaves, and its point q p.
@@ -146,11 +144,11 @@ pub record PageShown (t : List ℕ) (r : ℕ → List ℕ) (q : ℕ → List ℤ
   pub any-order : (ys : List (List ℕ)) → List·Permᴰ xs ys → grown t xs ≡ grown t ys
   -- every place whose own record came unchanged, and that no differing record claims, gives the sent point
   pub unchanged : (p : ℕ) → p < placesIn t → List·Memᴰ (r p) xs → ((x : List ℕ) → List·Memᴰ x xs → claims t x p ≡ true → x ≡ r p)
-      → SoundWith product t (grown t xs) p (q p)
+      → SoundWith t (grown t xs) p (q p)
   -- every place whose record came in one form only, changed only in sign bits, gives the point with exactly those coordinates negated
   pub signs-changed : (p : ℕ) → p < placesIn t → (codeword : ℕ) → productIndex (q p) / 2 ^ nonzerosIn (q p) ≡ codeword / 2 ^ nonzerosIn (q p)
       → List·Memᴰ (withCodeword (r p) codeword) xs → ((x : List ℕ) → List·Memᴰ x xs → claims t x p ≡ true → x ≡ withCodeword (r p) codeword)
-      → SoundWith product t (grown t xs) p (flipped (productIndex (q p)) codeword (q p))
+      → SoundWith t (grown t xs) p (flipped (productIndex (q p)) codeword (q p))
 
 abbrev pub WholePage : Type 0
 WholePage = (t : List ℕ) → Good t → (w : ℕ → List Float) (r : ℕ → List ℕ) (q : ℕ → List ℤ) → PageSent t w r q → (xs : List (List ℕ)) → PageShown t r q xs
@@ -159,7 +157,7 @@ WholePage = (t : List ℕ) → Good t → (w : ℕ → List Float) (r : ℕ → 
 pub record Demand3 : Type 0 where
   pub a : AnyOrder
   pub b : (t : List ℕ) → Good t → (xs : List (List ℕ)) (p : ℕ) → p < placesIn t → CellTold t xs p
-  pub never-12 : (e : Enumeration) (t : List ℕ) (xs : List (List ℕ)) → Never12 e t xs
+  pub never-12 : (t : List ℕ) (xs : List (List ℕ)) → Never12 t xs
   pub c : ShownAsSent
   pub d : OnlySignsChange
   pub e-read : ReadOnlySent

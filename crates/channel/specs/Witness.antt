@@ -10,7 +10,6 @@ use lib.ListN.{take}
 use Rattle.enumeration.specs.Point.{nonzerosIn}
 use Rattle.enumeration.specs.Product.{productIndex}
 use Rattle.enumeration.specs.Signs.{flipped}
-use Rattle.enumeration.proofs.Product.{product}
 use Rattle.tables.specs.Example.{wholeCase}
 use Rattle.coefficients.specs.Example.{vector}
 use Rattle.rules.specs.Example.{of, first, second, other, page, zeros}
@@ -33,22 +32,22 @@ arrivals r = second ∷ take 7 r ∷ r ∷ of 2 0 1 5 ∷ r ∷ []
 pub record Read (r : List ℕ) (q : List ℤ) : Type 0 where
   pub among : List·Memᴰ r (arrivals r)
   pub equal : AllEqual wholeCase (arrivals r) 0 r
-  pub says : readSays product wholeCase (grown wholeCase (arrivals r)) 0 zeros ≡ 0 ∷ 0 ∷ 0 ∷ []
-  pub leaves : readLeaves product wholeCase (grown wholeCase (arrivals r)) 0 zeros ≡ q
+  pub says : readSays wholeCase (grown wholeCase (arrivals r)) 0 zeros ≡ 0 ∷ 0 ∷ 0 ∷ []
+  pub leaves : readLeaves wholeCase (grown wholeCase (arrivals r)) 0 zeros ≡ q
 
 pub record Witness : Type 0 where
   -- c: the record that document 01 prints is the one that quantize leaves, and (1, 0, -1) is read, the last coefficient as -1.0
   pub is-sent : Sent wholeCase 0 vector first sent
   pub is-read : Read first sent
-  pub its-value : map (toBits binary32) (coefficientCarries product wholeCase (grown wholeCase (arrivals first)) 0 2) ≡ 3212836864 ∷ []
+  pub its-value : map (toBits binary32) (coefficientCarries wholeCase (grown wholeCase (arrivals first)) 0 2) ≡ 3212836864 ∷ []
   -- d: with bit 1 of its codeword changed, which makes 7 of 5, (-1, 0, -1) is read
   pub low-bits : productIndex sent / 2 ^ nonzerosIn sent ≡ 7 / 2 ^ nonzerosIn sent
   pub is-changed : withCodeword first 7 ≡ other
   pub is-turned : flipped (productIndex sent) 7 sent ≡ turned
   pub turned-read : Read other turned
   -- e: a sound and a mended place both meet the premise
-  pub shows-sound : ShowsPoint (readSays product wholeCase page 0 zeros)
-  pub shows-mended : ShowsPoint (readSays product wholeCase page 1 zeros)
+  pub shows-sound : ShowsPoint (readSays wholeCase page 0 zeros)
+  pub shows-mended : ShowsPoint (readSays wholeCase page 1 zeros)
   -- a table may hold every byte
   pub any-byte : (n : ℕ) → n < 256 → Bytes (n ∷ [])
   -- the demand as the order words it: the same vector, sent for every place of the table

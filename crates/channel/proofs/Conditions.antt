@@ -1,0 +1,98 @@
+-- The conditions of each call give the number that its checks give: checks of one number that stand one behind the other are one condition. Assumes
+-- nothing.
+use Prim.Native.Nat.{ℕ}
+use mathlib.Core.Path.{_≡_, refl, _∙_}
+use mathlib.Core.List.{List, [], _∷_, _++_, append-assoc}
+use mathlib.Core.Bool.{Bool, true, false}
+use lib.Ieee.{Float}
+use lib.ListN.{length}
+use Rattle.answers.specs.Checks.{numberSaid, Check, lengthCheck, pick, firstOf, eachFrom}
+use Rattle.answers.proofs.OneNumber.{OfNumber, each-of, one-number, one-number-last}
+use Rattle.tables.specs.Table.{placesIn, tableChecks, placeCheck, placeChecks, rowFor, lengthFor}
+use Rattle.tables.proofs.Seven.{table-of-7}
+use Rattle.records.specs.Record.{recordCheck, placeIn}
+use Rattle.coefficients.specs.Coefficients.{usableCheck, usableChecks}
+use Rattle.quantizer.specs.Calls.{quantizeRest, quantizeChecks}
+use Rattle.layout.specs.Layout.{cellAt}
+use Rattle.rules.specs.Taking.{pageCheck, cellCheck, cellCheckAt, pageChecks, lookChecks, takeRest, takeChecks}
+use Rattle.rules.specs.Reading.{readRest, readChecks, coefficientRest, coefficientChecks}
+use Rattle.rules.specs.Tallying.{tallyRest, tallyChecks}
+use Rattle.report.specs.Calls.{noRoom, linesFit, linesRest, linesChecks}
+use Rattle.channel.specs.Demand1.{condition, withTable, quantizeConditions, takeConditions, readConditions, coefficientConditions, tallyConditions, linesConditions}
+
+-- the same number is said by both, whatever the answer
+pub record Alike (cs ds : List Check) : Type 0 where
+  pub said : (answer : List ℕ) → numberSaid (firstOf cs answer) ≡ numberSaid (firstOf ds answer)
+
+pub alike : (cs : List Check) → Alike cs cs
+alike cs = record { said = λ answer. refl }
+
+-- behind one check
+behind : {cs ds : List Check} (c : Check) → Alike cs ds → Alike (c ∷ cs) (c ∷ ds)
+behind {cs} {ds} c same = record { said = λ answer. go answer (c .fails) }
+  where
+    go : (answer : List ℕ) (b : Bool)
+        → numberSaid (pick b (c .number ∷ c .values) (firstOf cs answer)) ≡ numberSaid (pick b (c .number ∷ c .values) (firstOf ds answer))
+    go answer true = refl
+    go answer false = same .said answer
+
+-- behind checks of one number, and the last ones
+grouped : {rest conditions : List Check} (n : ℕ) (cs : List Check) → OfNumber n cs → Alike rest conditions → Alike (cs ++ rest) (condition n cs ∷ conditions)
+grouped {rest} n cs of same =
+    record { said = λ answer. one-number answer n cs rest of ∙ behind (condition n cs) same .said answer }
+
+grouped-last : (n : ℕ) (cs : List Check) → OfNumber n cs → Alike cs (condition n cs ∷ [])
+grouped-last n cs of = record { said = λ answer. one-number-last answer n cs of }
+
+-- behind a table
+by-table : {checks rest conditions : List Check} (t : List ℕ) → checks ≡ tableChecks t ++ rest → Alike rest conditions → Alike checks (withTable t conditions)
+by-table t is same = rw is (grouped 7 (tableChecks t) (table-of-7 t) same)
+
+-- ---- the calls
+module _ (t : List ℕ) where
+  pub check-alike : Alike (tableChecks t) (withTable t [])
+  check-alike = grouped-last 7 (tableChecks t) (table-of-7 t)
+
+  -- behind a table and a place, a page, or both
+  placed : (p : ℕ) (rest : List Check) → placeChecks t p ++ rest ≡ tableChecks t ++ placeCheck t p ∷ rest
+  placed p rest = append-assoc (tableChecks t) (placeCheck t p ∷ []) rest
+
+  paged : (pg : List ℕ) (rest : List Check) → pageChecks t pg ++ rest ≡ tableChecks t ++ pageCheck t pg ∷ rest
+  paged pg rest = append-assoc (tableChecks t) (pageCheck t pg ∷ []) rest
+
+  looked : (pg : List ℕ) (p : ℕ) (rest : List Check) → lookChecks t pg p ++ rest ≡ tableChecks t ++ placeCheck t p ∷ pageCheck t pg ∷ rest
+  looked pg p rest = append-assoc (placeChecks t p) (pageCheck t pg ∷ []) rest ∙ placed p (pageCheck t pg ∷ rest)
+
+  pub quantize-alike : (p : ℕ) (w : List Float) (b : ℕ) → Alike (quantizeChecks t p w b) (withTable t (quantizeConditions t p w b))
+  quantize-alike p w b =
+      by-table t (placed p (quantizeRest (rowFor t p) w b))
+      (behind (placeCheck t p)
+      (grouped 4 (lengthCheck (length w) (lengthFor t p) ∷ recordCheck b ∷ []) (refl, (refl, tt))
+      (grouped-last 11 (usableChecks w) (each-of (usableCheck w) 11 0 (length w) (λ j. refl)))))
+
+  pub take-alike : (pg x : List ℕ) → Alike (takeChecks t pg x) (withTable t (takeConditions t pg x))
+  take-alike pg x =
+      by-table t (paged pg (takeRest t pg x))
+      (grouped 4 (pageCheck t pg ∷ recordCheck (length x) ∷ []) (refl, (refl, tt))
+      (alike (placeCheck t (placeIn x) ∷ cellCheck (placeIn x) (cellAt pg (placeIn x)) ∷ [])))
+
+  pub read-alike : (pg : List ℕ) (p b : ℕ) → Alike (readChecks t pg p b) (withTable t (readConditions t pg p b))
+  read-alike pg p b =
+      by-table t (looked pg p (readRest (rowFor t p) pg p b))
+      (behind (placeCheck t p)
+      (grouped 4 (pageCheck t pg ∷ lengthCheck b (lengthFor t p) ∷ []) (refl, (refl, tt)) (alike (cellCheck p (cellAt pg p) ∷ []))))
+
+  pub coefficient-alike : (pg : List ℕ) (p i : ℕ) → Alike (coefficientChecks t pg p i) (withTable t (coefficientConditions t pg p i))
+  coefficient-alike pg p i = by-table t (looked pg p (coefficientRest (rowFor t p) pg p i)) (alike (coefficientConditions t pg p i))
+
+  pub tally-alike : (pg : List ℕ) → Alike (tallyChecks t pg) (withTable t (tallyConditions t pg))
+  tally-alike pg =
+      by-table t (paged pg (tallyRest t pg))
+      (behind (pageCheck t pg) (grouped-last 12 (tallyRest t pg) (each-of (cellCheckAt pg) 12 0 (placesIn t) (λ j. refl))))
+
+  pub lines-alike : (pg : List ℕ) (p b : ℕ) → Alike (linesChecks t pg p b) (withTable t (linesConditions t pg p b))
+  lines-alike pg p b =
+      by-table t (looked pg p (linesRest t pg p b))
+      (behind (placeCheck t p)
+      (grouped 4 (pageCheck t pg ∷ noRoom b ∷ []) (refl, (refl, tt))
+      (grouped-last 12 (eachFrom (cellCheckAt pg) p (linesFit t p b)) (each-of (cellCheckAt pg) 12 p (linesFit t p b) (λ j. refl)))))
