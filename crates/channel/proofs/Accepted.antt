@@ -1,25 +1,23 @@
--- What it means that quantize accepts coefficients: the table is good, the place is in it, the vector has the row's length, every coefficient is
--- usable, and the lent buffer has the record. Assumes nothing.
+-- What it means that quantize accepts coefficients: the table is good, the place is in it, the vector has the row's length,
+-- and the lent buffer has the record. Assumes nothing.
 use Prim.Native.Nat.{ℕ, _<_}
 use mathlib.Core.Path.{_≡_}
 use mathlib.Core.List.{List, [], _∷_}
 use lib.Dec.{lit<}
 use lib.Ieee.{Float}
 use lib.ListN.{length}
-use Rattle.answers.specs.Checks.{Passes}
 use Rattle.answers.proofs.Each.{each-numbered}
 use Rattle.answers.proofs.InOrder.{numbered-then, says-passes, passes-apart, passes-leaves}
 use Rattle.answers.proofs.Lengths.{right-length}
 use Rattle.tables.specs.Table.{placesIn, placeChecks, Good, rowFor, lengthFor}
 use Rattle.tables.proofs.PlaceChecks.{place-numbered, place-passes}
-use Rattle.coefficients.specs.Coefficients.{usableCheck, usableChecks}
+use Rattle.coefficients.specs.Coefficients.{usableCheck}
 use Rattle.quantizer.specs.Calls.{quantizeRest, quantizeChecks, recordFor, quantizeSays, quantizeLeaves}
 
 pub record Accepted (t : List ℕ) (p : ℕ) (w : List Float) (lent : List ℕ) : Type 0 where
   pub good : Good t
   pub inside : p < placesIn t
   pub long : length w ≡ lengthFor t p
-  pub usable : Passes (usableChecks w)
   pub leaves : quantizeLeaves t p w lent ≡ recordFor t p w
 
 pub accepts : (t : List ℕ) (p : ℕ) (w : List Float) (lent : List ℕ) → quantizeSays t p w lent ≡ 0 ∷ [] → Accepted t p w lent
@@ -34,6 +32,5 @@ accepts t p w lent says =
       good = place .0;
       inside = place .1;
       long = right-length (length w) (lengthFor t p) (both .1 .0);
-      usable = both .1 .1 .1;
       leaves = passes-leaves (recordFor t p w) lent checks passes;
     }
