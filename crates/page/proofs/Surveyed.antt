@@ -6,8 +6,8 @@ use Rattle.pairing.proofs.Surveys.{Surveys, survey-good}
 use Rattle.pairing.specs.Meanings.{surveyMeaning}
 use Rattle.pairing.specs.declared.inner.survey.Surveyed.{Surveyed}
 use Rattle.pairing.specs.declared.inner.survey.Surveyed.the-variants as surveyed
-use Rattle.rules.proofs.Pages.{page-numbered, look-numbered}
-use Rattle.rules.specs.Taking.{pageChecks, lookChecks}
+use Rattle.rules.proofs.Pages.{page-numbered}
+use Rattle.rules.specs.Taking.{pageChecks}
 use Rattle.tables.specs.Table.{surveySays}
 use Rattle.page.specs.Bounds.{Ready}
 
@@ -19,8 +19,3 @@ module _ (t pg : List ℕ) {survey : Surveyed} {places row : ℕ} (says : survey
 
   pub page-ready : Ready t pg places
   page-ready = record { passes = page-found .passes; is-places = page-found .is-places }
-
--- a table, a place and a page
-pub look-found : (t pg : List ℕ) (p : ℕ) {survey : Surveyed} {places row : ℕ} → surveyMeaning survey ≡ surveySays (lookChecks t pg p) t p
-    → survey ≡ surveyed.Good places row → Surveys (lookChecks t pg p) t p places row
-look-found t pg p says told = survey-good (lookChecks t pg p) t p says (look-numbered t pg p) told

@@ -5,7 +5,10 @@ use mathlib.Core.List.{List, [], _∷_, _++_}
 use mathlib.Core.Path.{_≡_, sym, ap, _∙_}
 use lib.ListN.{length}
 use Rattle.answers.specs.Checks.{Check}
-use Rattle.pairing.proofs.Surveys.{Surveys, one-fails, one-passes}
+use Rattle.pairing.proofs.Surveys.{Surveys, survey-good, one-fails, one-passes}
+use Rattle.pairing.specs.Meanings.{surveyMeaning}
+use Rattle.pairing.specs.declared.inner.survey.Surveyed.{Surveyed}
+use Rattle.pairing.specs.declared.inner.survey.Surveyed.the-variants as surveyed
 use Rattle.tables.proofs.Good.{good-row, places-to}
 use Rattle.tables.proofs.Places.{row-below}
 use Rattle.tables.proofs.Rows.{row-length}
@@ -13,7 +16,7 @@ use Rattle.tables.specs.Row.{IsRow}
 use Rattle.tables.specs.Table.{placesIn, rowOf, rowFor, Good, surveySays}
 use Rattle.layout.specs.Bounds.{InPage}
 use Rattle.layout.specs.Layout.{pageLength, pageLengthCheck}
-use Rattle.rules.proofs.Pages.{look-place, look-size}
+use Rattle.rules.proofs.Pages.{look-numbered, look-place, look-size}
 use Rattle.rules.specs.Taking.{pageCheck, lookChecks}
 
 -- `wrong` is what was found of the length
@@ -39,7 +42,11 @@ its-row t p good below =
     let in-table = row-below t p below in
     record { sixteen = row-length t (rowOf t p) in-table; row-good = good-row t good (rowOf t p) in-table }
 
--- a place that may be looked at
+-- a place that may be looked at, by what its survey answered
+pub look-found : (t pg : List ℕ) (p : ℕ) {survey : Surveyed} {places row : ℕ} → surveyMeaning survey ≡ surveySays (lookChecks t pg p) t p
+    → survey ≡ surveyed.Good places row → Surveys (lookChecks t pg p) t p places row
+look-found t pg p says told = survey-good (lookChecks t pg p) t p says (look-numbered t pg p) told
+
 module _ (t pg : List ℕ) (p : ℕ) {places row : ℕ} (found : Surveys (lookChecks t pg p) t p places row) where
   pub look-in-page : InPage pg places p
   look-in-page =

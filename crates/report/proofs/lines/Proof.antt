@@ -1,22 +1,22 @@
--- `report::lines` says what the call lines is to say and leaves what it is to leave: a refusal of the checks of the table, and the buffer as it was; or
--- else what is said and left for a good table. Assumes nothing.
+-- `report::lines` says what the call lines is to say and leaves what it is to leave: a refusal of the checks of the table, the place and the page, and the
+-- buffer as it was; or else what is said and left behind them. Assumes nothing.
 use mathlib.Core.Path.{_∙_}
-use lib.ListN.{length}
 use native.Mathlib.Omega.{arith}
 use borrow.Author.Needs.{needs}
+use lib.ListN.{length}
 use Rattle.answers.proofs.InOrder.{passed-says, passed-leaves}
-use Rattle.enumeration.proofs.Product.{product}
-use Rattle.pairing.proofs.Surveys.{survey-good}
-use Rattle.pairing.proofs.Refused.{table-says, table-leaves}
-use Rattle.tables.specs.Table.{tableChecks}
+use Rattle.pairing.proofs.Surveys.{survey-says, survey-leaves}
+use Rattle.places.proofs.Opening.{look-found}
+use Rattle.rules.specs.Taking.{lookChecks}
 use Rattle.report.specs.Calls.{startingWith, linesRest, linesText, linesAnswer}
 use Rattle.report.proofs.lines.Statement.{statement}
 use Rattle.report.proofs.lines.Tie as tie
 
-lines-in-requires : tie.Need-lines-in-requires
-lines-in-requires c κs =
+lines-from-requires : tie.Need-lines-from-requires
+lines-from-requires c κs =
     let a = c .before .before .before .before .before .before .before .before .args in
-    survey-good (a .table .now) (a .from) (c .before .before .places .given .1) (c .before .before .before .before .survey .ensures)
+    let found = look-found (a .table .now) (a .page .now) (a .from) (c .before .before .before .before .survey-look .ensures) (c .before .before .places .given .1) in
+    record { passes = found .passes; is-places = found .is-places; is-row = found .is-row }
 
 returns : tie.Need-returns
 returns c =
@@ -24,12 +24,13 @@ returns c =
     let t = a .table .now in
     let pg = a .page .now in
     let held = a .out .now in
-    let good = survey-good t (a .from) (c .before .before .before .before .before .places .given .1) (c .before .before .before .before .before .before .before .survey .ensures) .good in
+    let checks = lookChecks t pg (a .from) in
+    let passes = look-found t pg (a .from) (c .before .before .before .before .before .before .before .survey-look .ensures) (c .before .before .before .before .before .places .given .1) .passes in
     let rest = linesRest t pg (a .from) (length held) in
-    let did = c .before .before .lines-in .ensures in (
-      did .0 ∙ passed-says (tableChecks t) rest (linesAnswer product t pg (a .from) (length held)) good,
-      did .1 ∙ passed-leaves (tableChecks t) rest (startingWith (linesText product t pg (a .from) (length held)) held) held good,
-      did .2,
+    let did = c .before .before .lines-from .ensures in (
+      did .0 ∙ passed-says checks rest (linesAnswer t pg (a .from) (length held)) passes,
+      did .1 .0 ∙ passed-leaves checks rest (startingWith (linesText t pg (a .from) (length held)) held) held passes,
+      did .1 .1,
     )
 
 returns-2 : tie.Need-returns-2
@@ -38,11 +39,12 @@ returns-2 c =
     let t = a .table .now in
     let pg = a .page .now in
     let held = a .out .now in
-    let told = c .before .refusal .given in
-    let says = c .before .before .before .survey .ensures in
+    let checks = lookChecks t pg (a .from) in
+    let says = c .before .before .before .survey-look .ensures in
+    let told = c .before .refusal .given .1 in
     let rest = linesRest t pg (a .from) (length held) in (
-      table-says t (a .from) (told .1) says rest (linesAnswer product t pg (a .from) (length held)),
-      table-leaves t (a .from) (told .1) says rest (startingWith (linesText product t pg (a .from) (length held)) held) held,
+      survey-says checks t (a .from) says told rest (linesAnswer t pg (a .from) (length held)),
+      survey-leaves checks t (a .from) says told rest (startingWith (linesText t pg (a .from) (length held)) held) held,
       omega arith,
     )
 
@@ -52,7 +54,7 @@ lines-spec =
     (tie.spec
     (λ c κs. search needs)
     (λ c. search needs)
-    lines-in-requires
+    lines-from-requires
     (λ c. search needs)
     (λ c. search needs)
     returns

@@ -1,36 +1,37 @@
 -- `report::inner::block::write_line` writes the line of a place in its row, by way of a point in room of its own. Assumes nothing.
-use Prim.Native.Nat.{_≤_}
-use mathlib.Core.Path.{sym}
+use mathlib.Core.Path.{sym, _∙_}
 use native.Mathlib.Omega.{arith}
 use lib.IntN.{pos}
 use lib.ListN.{replicate}
 use lib.Seq.{length-take-le}
 use borrow.Author.Needs.{needs}
-use Rattle.enumeration.proofs.Product.{product}
+use Rattle.layout.specs.Layout.{cellAt}
 use Rattle.rules.proofs.Shows.{judge-shows}
-use Rattle.rules.specs.Cell.{cell}
+use Rattle.tables.proofs.GoodRow.{row-lawful, row-full}
 use Rattle.report.proofs.inner.block.write_line.Statement.{statement}
 use Rattle.report.proofs.inner.block.write_line.Tie as tie
 
-slice-aggregate-write-shown : tie.Need-slice-aggregate-write-shown
-slice-aggregate-write-shown c =
+slice-aggregate-write-seen : tie.Need-slice-aggregate-write-seen
+slice-aggregate-write-seen c =
     let length = c .before .before .length in
-    sym (length-take-le (length .result .0) (replicate 16 (pos 0)) (omega (arith, length .ensures, c .before .before .before .before .before .before .pre .0 .row-in .row-good .length-to)))
+    sym (length-take-le (length .result .0) (replicate 16 (pos 0)) (omega (arith, length .ensures, c .before .before .before .before .before .before .pre .0 .row-good .length-to)))
 
-write-shown-requires : tie.Need-write-shown-requires
-write-shown-requires c κs =
+write-seen-requires : tie.Need-write-seen-requires
+write-seen-requires c κs =
     let a = c .before .before .before .before .before .before .before in
+    let row = a .args .row .now in
+    let is-row = a .pre .0 in
     let length = c .before .before .before .length in
-    let row-good = a .pre .0 .row-in .row-good in
-    let to-16 : length .result .0 ≤ 16 = omega (arith, length .ensures, row-good .length-to) in (
-      rw (length .ensures, c .before .before .judge-at .ensures) (judge-shows product (a .args .table .now) (a .args .row) row-good (cell (a .args .page .now) (a .args .place))),
-      length-take-le (length .result .0) (replicate 16 (pos 0)) to-16,
-      to-16,
-      a .pre .1,
+    let seen = c .before .before .judge-at .ensures in (
+      is-row,
+      rw (seen .is-judged) (judge-shows row (row-lawful row) (row-full row) (is-row .row-good) (a .args .number) (cellAt (a .args .page .now) (a .args .place))),
+      seen .handed,
+      length-take-le (length .result .0) (replicate 16 (pos 0)) (omega (arith, length .ensures, is-row .row-good .length-to)) ∙ length .ensures,
+      a .pre .2,
     )
 
 returns : tie.Need-returns
-returns c = rw (c .before .before .before .before .before .before .before .length .ensures, c .before .before .before .before .before .before .judge-at .ensures) at (c .before .before .before .write-shown .ensures)
+returns c = rw (c .before .before .before .before .before .before .judge-at .ensures .is-judged) at (c .before .before .before .write-seen .ensures)
 
 pub write-line-spec : {M : Type 1} → statement M
 write-line-spec =
@@ -39,7 +40,7 @@ write-line-spec =
     (λ c κs. search needs)
     (λ c κs. search needs)
     (λ c. search needs)
-    slice-aggregate-write-shown
-    write-shown-requires
+    slice-aggregate-write-seen
+    write-seen-requires
     (λ c. search needs)
     returns)
