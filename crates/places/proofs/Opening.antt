@@ -37,8 +37,8 @@ in-page t good size is-places below =
     record { size = rw is-places size; places-to = rw is-places (places-to t good); below = rw is-places below }
 
 -- the row of a place
-pub its-row : (t : List ℕ) (p : ℕ) → Good t → p < placesIn t → IsRow (rowFor t p)
-its-row t p good below =
+pub row-of-place : (t : List ℕ) (p : ℕ) → Good t → p < placesIn t → IsRow (rowFor t p)
+row-of-place t p good below =
     let in-table = row-below t p below in
     record { sixteen = row-length t (rowOf t p) in-table; row-good = good-row t good (rowOf t p) in-table }
 
@@ -54,4 +54,4 @@ module _ (t pg : List ℕ) (p : ℕ) {places row : ℕ} (found : Surveys (lookCh
       in-page t (place .0) (look-size t pg p (found .passes)) (found .is-places) (place .1)
 
   pub look-row : IsRow (rowFor t p)
-  look-row = let place = look-place t pg p (found .passes) in its-row t p (place .0) (place .1)
+  look-row = let place = look-place t pg p (found .passes) in row-of-place t p (place .0) (place .1)

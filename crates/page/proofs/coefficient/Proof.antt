@@ -7,14 +7,13 @@ use borrow.Author.Needs.{needs}
 use Rattle.answers.specs.Checks.{Check}
 use Rattle.layout.specs.Layout.{cellAt}
 use Rattle.pairing.proofs.Surveys.{survey-says, survey-leaves, number-in, row-surveyed, place-says, place-leaves}
-use Rattle.places.proofs.Opening.{look-in-page}
+use Rattle.places.proofs.Opening.{look-found, look-in-page}
 use Rattle.rules.proofs.Pages.{look-place}
 use Rattle.rules.specs.Judging.{judge, judgeAt}
 use Rattle.rules.specs.Reading as rules
 use Rattle.rules.specs.Reading.{coefficientRest, carriedBy}
 use Rattle.rules.specs.Taking.{lookChecks}
 use Rattle.tables.specs.Table.{rowFor}
-use Rattle.page.proofs.Surveyed.{look-found}
 use Rattle.page.proofs.coefficient.Statement.{statement}
 use Rattle.page.proofs.coefficient.Tie as tie
 

@@ -8,14 +8,13 @@ use borrow.Author.Needs.{needs}
 use Rattle.answers.specs.Checks.{Check}
 use Rattle.layout.specs.Layout.{cellAt}
 use Rattle.pairing.proofs.Surveys.{survey-says, survey-leaves, number-in, row-surveyed, place-says, place-leaves}
-use Rattle.places.proofs.Opening.{look-in-page}
+use Rattle.places.proofs.Opening.{look-found, look-in-page}
 use Rattle.rules.proofs.Pages.{look-place}
 use Rattle.rules.specs.Judging.{judge, judgeAt, shown}
 use Rattle.rules.specs.Reading as rules
 use Rattle.rules.specs.Reading.{readRest, pointAt}
 use Rattle.rules.specs.Taking.{lookChecks}
 use Rattle.tables.specs.Table.{rowFor}
-use Rattle.page.proofs.Surveyed.{look-found}
 use Rattle.page.proofs.read.Statement.{statement}
 use Rattle.page.proofs.read.Tie as tie
 
