@@ -3,13 +3,11 @@
 use Prim.Native.Nat.{ℕ, _≤_}
 use mathlib.Core.List.{List}
 use mathlib.Core.Path.{_≡_, sym, ap, _∙_}
-use native.Mathlib.Nat.{le-refl}
 use native.Mathlib.Omega.{arith}
 use lib.ListN.{length, take}
 use lib.Seq.{length-take-le}
-use Rattle.tables.proofs.Good.{good-total}
+use Rattle.tables.proofs.Good.{places-to}
 use Rattle.tables.proofs.Seven.{check-good}
-use Rattle.tables.specs.Row.{rowsOf}
 use Rattle.tables.specs.Table.{checkSays}
 use Rattle.pairing.specs.Meanings.{checkMeaning}
 use Rattle.pairing.specs.declared.Checked.{Checked}
@@ -33,4 +31,4 @@ refused-few t pg block is-refused h = omega (arith, is-refused, collected-to t p
 pub places-few : (t : List ℕ) {answer : Checked} {n : ℕ} → answer ≡ checked.Places n → checkMeaning answer ≡ checkSays t → n ≤ 4096
 places-few t {n = n} same says =
     let of-good = check-good t n (ap checkMeaning (sym same) ∙ says) in
-    omega (arith, of-good .1, good-total t (of-good .0) (rowsOf t) (le-refl (rowsOf t)))
+    omega (arith, of-good .1, places-to t (of-good .0))

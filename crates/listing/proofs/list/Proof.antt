@@ -11,7 +11,7 @@ use Rattle.listing.proofs.list.Tie as tie
 
 slice-aggregate-page : tie.Need-slice-aggregate-page
 slice-aggregate-page c =
-    let size = c .before .start in
+    let size = c .before .page-length in
     let room : List ℕ = replicate 36864 0 in
     let all : length room ≡ 36864 = length-replicate {A = ℕ} 36864 0 in
     sym (length-take-le (size .result) room (omega (arith, size .ensures, c .before .before .before .pre, all)))

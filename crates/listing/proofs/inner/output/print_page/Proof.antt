@@ -5,7 +5,6 @@ use mathlib.Core.Path.{_≡_, sym, ap, _∙_}
 use native.Mathlib.Omega.{arith}
 use lib.ListN.{length}
 use borrow.Author.Needs.{needs}
-use Rattle.enumeration.proofs.Product.{product}
 use Rattle.report.proofs.Steps.{said-goes-on}
 use Rattle.report.specs.Calls.{listedMeaning, sizeListed}
 use Rattle.listing.proofs.Parts.{part-fits, part-size}
@@ -32,7 +31,7 @@ loop-less c =
     let a = c .before .before .before .before .before .before .before .before .before .before .before .before .before .before .args in
     let i = c .before .before .before .before .before .before .before .before .before .before .loop in
     let told = c .before .before .before .before .to .given in
-    let on = said-goes-on product (a .table .now) (a .page .now) (i .out) (i .from) _ _ (ap listedMeaning (sym (told .1)) ∙ c .before .before .before .before .before .before .before .lines .ensures .0) in
+    let on = said-goes-on (a .table .now) (a .page .now) (i .out) (i .from) _ _ (ap listedMeaning (sym (told .1)) ∙ c .before .before .before .before .before .before .before .lines .ensures .0) in
     omega (arith, on .0, on .1)
 
 loop-again : tie.Need-loop-again Inv-loop μ-loop
@@ -41,7 +40,7 @@ loop-again c =
     let i = c .before .before .before .before .before .before .before .before .before .before .loop in
     let told = c .before .before .before .before .to .given in
     let block = c .before .before .before .before .before .before .before .lines in
-    let on = said-goes-on product (a .table .now) (a .page .now) (i .out) (i .from) _ _ (ap listedMeaning (sym (told .1)) ∙ block .ensures .0) in
+    let on = said-goes-on (a .table .now) (a .page .now) (i .out) (i .from) _ _ (ap listedMeaning (sym (told .1)) ∙ block .ensures .0) in
     (on .1, block .kept .1 .1 .1 .0 ∙ i .inv .1)
 
 pub print-page-spec : {M : Type 1} → statement M
