@@ -12,7 +12,7 @@ use Rattle.tables.proofs.GoodRow.{row-lawful, row-full}
 use Rattle.layout.specs.Layout.{cellAt}
 use Rattle.rules.specs.Taking.{pageCheck, pageChecks}
 use Rattle.rules.specs.Judging.{judgeAt}
-use Rattle.rules.specs.Tallying.{tallyRest, countOf, countsOf, answersIn, tallyOf, tallySays}
+use Rattle.rules.specs.Tallying.{tallyRest, countOf, countsOf, answerAt, tallyOf, tallySays}
 use Rattle.rules.proofs.Shows.{judge-shows}
 use Rattle.rules.proofs.Counts.{tally-sum}
 use Rattle.channel.specs.Demand2.{Answers, Tallies}
@@ -42,6 +42,6 @@ tallies t pg said =
     record {
       counts = tallyOf t pg;
       said = says-through (pageChecks t pg) (tallyRest t pg) (0 ∷ tallyOf t pg) page (none-of (failsOf (tallyRest t pg)) (none .1 .1 .0));
-      each = λ j h. each-count (answersIn t pg) (placesIn t) j h;
+      each = λ j h. each-count (answerAt t pg) (placesIn t) j h;
       sum = tally-sum t pg;
     }

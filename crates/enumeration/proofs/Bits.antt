@@ -10,7 +10,7 @@ use lib.IntN.{ℤ}
 use lib.ListN.{length}
 use Rattle.counts.specs.Counts.{S, B, O}
 use Rattle.enumeration.specs.Point.{isNonzero, isNegative, nonzeros, nonzerosIn, patternIn, shapeIn, support, signsIn, radiusOf}
-use Rattle.enumeration.specs.Product.{patternIndex, shapeIndex, signIndex, weigh, productIndex}
+use Rattle.enumeration.specs.Product.{patternIndex, shapeIndex, signIndex, indexFrom, productIndex}
 use Rattle.enumeration.specs.Reading.{bit, signsOf}
 use Rattle.enumeration.proofs.SignBits.{signs-back}
 use Rattle.enumeration.proofs.Spread.{support-many}
@@ -18,7 +18,7 @@ use Rattle.enumeration.proofs.Flips.{start-whole}
 
 -- the low s bits of an index, read as signs, are those of its point
 pub signs-low : (x : List ℤ) → signsOf (nonzerosIn x) (productIndex x) ≡ signsIn x
-unfolding productIndex weigh B
+unfolding productIndex indexFrom B
 signs-low x =
     let s = nonzerosIn x in
     let c = O s (length x) (radiusOf x) / 2 ^ s in

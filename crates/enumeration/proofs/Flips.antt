@@ -14,7 +14,7 @@ use lib.Pow.{pow-pos}
 use Rattle.counts.specs.Counts.{N, D, S, B, R, O, rangeSize}
 use Rattle.counts.proofs.Ranges.{range-multiple, end-bound}
 use Rattle.enumeration.specs.Point.{signed, nonzeros, nonzerosIn}
-use Rattle.enumeration.specs.Reading.{bit, signAll, spread, patternOf, shapeOf, signsOf, rangeOf, pointFrom, pointIn, productPoint}
+use Rattle.enumeration.specs.Reading.{bit, signAll, spread, patternOf, shapeOf, signsOf, rangeOf, pointFrom, pointWithin, productPoint}
 use Rattle.enumeration.specs.Signs.{flipped}
 use Rattle.enumeration.proofs.Patterns.{pattern-read}
 use Rattle.enumeration.proofs.Shapes.{Positive, shape-read}
@@ -103,8 +103,8 @@ module _ (l k s : ℕ) where
 
 -- in one range, at positions in the same block
 flip-in : (s l k w w′ n n′ : ℕ) → w < R s l k → w / 2 ^ s ≡ w′ / 2 ^ s → SameBits s n w → SameBits s n′ w′
-    → pointIn s l k w′ ≡ flipped n n′ (pointIn s l k w)
-unfolding pointIn pointFrom B
+    → pointWithin s l k w′ ≡ flipped n n′ (pointWithin s l k w)
+unfolding pointWithin pointFrom B
 flip-in s l k w w′ n n′ h e same same′ =
     let p = pattern-read s l (w / 2 ^ s / S s k) (pattern-in s l k w h) in
     let i = shape-read s k (w / 2 ^ s % S s k) (shape-in s l k w h) in

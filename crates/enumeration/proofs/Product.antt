@@ -13,14 +13,14 @@ use Rattle.counts.proofs.Ranges.{end-bound}
 use Rattle.enumeration.specs.Point.{OnShell, radiusOf, patternIn, nonzerosIn, shapeIn, signsIn}
 use Rattle.enumeration.specs.Enumeration.{Lawful, Full}
 use Rattle.enumeration.specs.Enumerations.{product}
-use Rattle.enumeration.specs.Product.{patternIndex, shapeIndex, signIndex, weigh, productIndex}
-use Rattle.enumeration.specs.Reading.{rangeOf, pointFrom, pointIn, productPoint}
+use Rattle.enumeration.specs.Product.{patternIndex, shapeIndex, signIndex, indexFrom, productIndex}
+use Rattle.enumeration.specs.Reading.{rangeOf, pointFrom, pointWithin, productPoint}
 use Rattle.enumeration.proofs.RangeOf.{Holds, range-holds, range-found}
 use Rattle.enumeration.proofs.Parts.{pattern-part, shape-part, sign-part, nonzeros-part, parts-back, IsOf, from-parts}
 
 -- the document's (1,0,-1) has pattern 1, shape 0 and signs 1, and index 5
-weighs-5 : weigh 2 3 2 1 0 1 ≡ 5
-unfolding weigh binomial D S B sumAfter rangeSize rangeStart
+weighs-5 : indexFrom 2 3 2 1 0 1 ≡ 5
+unfolding indexFrom binomial D S B sumAfter rangeSize rangeStart
 weighs-5 = refl
 
 pub B-positive : (s : ℕ) → 0 < B s
@@ -33,13 +33,13 @@ module _ (s l k pattern shape sign : ℕ) (p : pattern < D s l) (h : shape < S s
   unfolding rangeSize
   position-below = digits-lt (digits-lt p h) g
 
-  weigh-holds : s ≤ mostNonzero l k → Holds l k (weigh s l k pattern shape sign) s
-  unfolding weigh
+  weigh-holds : s ≤ mostNonzero l k → Holds l k (indexFrom s l k pattern shape sign) s
+  unfolding indexFrom
   weigh-holds m = record { to-most = m; from-start = omega arith; to-end = omega (arith, position-below) }
 
   weigh-point : s ≤ mostNonzero l k
-      → productPoint l k (weigh s l k pattern shape sign) ≡ pointFrom s l k pattern shape ((pattern * S s k + shape) * B s + sign)
-  unfolding productPoint pointIn weigh
+      → productPoint l k (indexFrom s l k pattern shape sign) ≡ pointFrom s l k pattern shape ((pattern * S s k + shape) * B s + sign)
+  unfolding productPoint pointWithin indexFrom
   weigh-point m =
       let q = pattern * S s k + shape in
       let found : rangeOf l k (O s l k + q * B s + sign) ≡ s = range-found l k (O s l k + q * B s + sign) s (weigh-holds m) in
@@ -92,8 +92,8 @@ module _ (s l k within : ℕ) (h : within < R s l k) where
   pub shape-in : within / B s % S s k < S s k
   shape-in = mod-lt (within / B s) S-positive
 
-  pub in-parts : IsOf s l k (within / B s / S s k) (within / B s % S s k) (within % 2 ^ s) (pointIn s l k within)
-  unfolding pointIn
+  pub in-parts : IsOf s l k (within / B s / S s k) (within / B s % S s k) (within % 2 ^ s) (pointWithin s l k within)
+  unfolding pointWithin
   in-parts = from-parts s l k (within / B s / S s k) (within / B s % S s k) within pattern-in shape-in
 
   position-back : (within / B s / S s k * S s k + within / B s % S s k) * B s + within % 2 ^ s ≡ within
@@ -116,7 +116,7 @@ point-on-shell l k n h =
     record { of-length = y .of-length; of-radius = y .of-radius }
 
 pub index-of-point : (l k n : ℕ) → n < N l k → productIndex (productPoint l k n) ≡ n
-unfolding productPoint productIndex weigh
+unfolding productPoint productIndex indexFrom
 index-of-point l k n h =
     let s = rangeOf l k n in
     let within = n - O s l k in

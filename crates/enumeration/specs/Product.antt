@@ -35,9 +35,9 @@ signIndex [] = 0
 signIndex (b ∷ bs) = signBit b * 2 ^ length bs + signIndex bs
 
 -- Index = O(s) + (pattern x S + shape) x 2^s + sign (eq. 27).
-unfoldable pub weigh : (s l k pattern shape sign : ℕ) → ℕ
-weigh s l k pattern shape sign = O s l k + (pattern * S s k + shape) * B s + sign
+unfoldable pub indexFrom : (s l k pattern shape sign : ℕ) → ℕ
+indexFrom s l k pattern shape sign = O s l k + (pattern * S s k + shape) * B s + sign
 
 unfoldable pub productIndex : List ℤ → ℕ
 productIndex x =
-    weigh (nonzerosIn x) (length x) (radiusOf x) (patternIndex (patternIn x)) (shapeIndex (shapeIn x)) (signIndex (signsIn x))
+    indexFrom (nonzerosIn x) (length x) (radiusOf x) (patternIndex (patternIn x)) (shapeIndex (shapeIn x)) (signIndex (signsIn x))

@@ -68,8 +68,8 @@ unfoldable pub pointFrom : (s l k pattern shape signs : ℕ) → List ℤ
 pointFrom s l k pattern shape signs = spread (patternOf s l pattern) (signAll (signsOf s signs) (shapeOf s k shape))
 
 -- the parts of a position in the range for s, which counts signs first, then shapes, then patterns
-unfoldable pub pointIn : (s l k within : ℕ) → List ℤ
-pointIn s l k within = pointFrom s l k (within / B s / S s k) (within / B s % S s k) within
+unfoldable pub pointWithin : (s l k within : ℕ) → List ℤ
+pointWithin s l k within = pointFrom s l k (within / B s / S s k) (within / B s % S s k) within
 
 unfoldable pub productPoint : ℕ → ℕ → ℕ → List ℤ
-productPoint l k n = pointIn (rangeOf l k n) l k (n - O (rangeOf l k n) l k)
+productPoint l k n = pointWithin (rangeOf l k n) l k (n - O (rangeOf l k n) l k)

@@ -20,7 +20,7 @@ use Rattle.rules.proofs.Counts.{five-answers, counts-next, counts-to}
 use Rattle.rules.proofs.Pages.{page-good, page-size}
 use Rattle.rules.specs.Judging.{judge, judgeAt, answerNumber}
 use Rattle.rules.specs.Taking.{badCell, cellCheckAt}
-use Rattle.rules.specs.Tallying.{countOf, countsOf, answersIn, tallyOf, tallyRest}
+use Rattle.rules.specs.Tallying.{countOf, countsOf, answerAt, tallyOf, tallyRest}
 use Rattle.rules.specs.declared.Judged.{Judged}
 use Rattle.places.proofs.Opening.{in-page}
 use Rattle.page.specs.Bounds.{Ready}
@@ -29,7 +29,7 @@ use Rattle.page.specs.Bounds.{Ready}
 pub record Tallying (t pg : List ℕ) (row end n : ℕ) (counts : List ℕ) : Type 0 where
   pub to : n ≤ placesIn t
   pub on : Walked t row end n
-  pub counted : counts ≡ countsOf (answersIn t pg) n
+  pub counted : counts ≡ countsOf (answerAt t pg) n
   pub left : firstOf (eachFrom (cellCheckAt pg) n (placesIn t - n)) (0 ∷ tallyOf t pg) ≡ firstOf (tallyRest t pg) (0 ∷ tallyOf t pg)
 
 module _ {t pg : List ℕ} {places : ℕ} (ready : Ready t pg places) where
@@ -57,7 +57,7 @@ module _ {t pg : List ℕ} {places : ℕ} (ready : Ready t pg places) where
       place-fits = omega (arith, inside, places-to t (page-good t pg (ready .passes)))
 
       pub count-fits : (a : ℕ) → getD counts a 0 ≤ 4096
-      count-fits a = rw (so-far .counted) (omega (arith, counts-to (answersIn t pg) n a, place-fits))
+      count-fits a = rw (so-far .counted) (omega (arith, counts-to (answerAt t pg) n a, place-fits))
 
       pub its-cell : InPage pg places n
       its-cell = in-page t (page-good t pg (ready .passes)) (page-size t pg (ready .passes)) (ready .is-places) inside
@@ -67,7 +67,7 @@ module _ {t pg : List ℕ} {places : ℕ} (ready : Ready t pg places) where
 
       module _ {row′ end′ : ℕ} (at-row : AtRow t row′ end′ n) (fine : badCell n (cellAt pg n) ≡ false) {j : Judged}
           (judged : j ≡ judge (rowAt t row′) row′ (cellAt pg n)) {a : ℕ} (is-number : a ≡ answerNumber j) where
-        answer-is : answersIn t pg n ≡ a
+        answer-is : answerAt t pg n ≡ a
         answer-is =
             let same : j ≡ judgeAt t pg n = judged ∙ ap (λ (r : ℕ). judge (rowAt t r) r (cellAt pg n)) (its-row at-row inside) in
             sym (is-number ∙ ap answerNumber same)
@@ -78,7 +78,7 @@ module _ {t pg : List ℕ} {places : ℕ} (ready : Ready t pg places) where
           on = walks-on at-row;
           counted =
               rw (add-one n, add-one (getD counts a 0), so-far .counted)
-              (counts-next (answersIn t pg) n a answer-is (rw is-number (five-answers j)));
+              (counts-next (answerAt t pg) n a answer-is (rw is-number (five-answers j)));
           left =
               rw (add-one n)
               (sym (each-passed (cellCheckAt pg) (0 ∷ tallyOf t pg) n (placesIn t) inside fine) ∙ so-far .left);

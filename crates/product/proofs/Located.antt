@@ -7,7 +7,7 @@ use native.Mathlib.Nat.{div-le-self, lt-of-le-of-lt}
 use Rattle.counts.specs.Counts.{D, S, B, R, mostNonzero}
 use Rattle.counts.proofs.Pascal.{D-zero, S-none}
 use Rattle.counts.proofs.Ranges.{end-bound}
-use Rattle.enumeration.specs.Reading.{pointIn, productPoint}
+use Rattle.enumeration.specs.Reading.{pointWithin, productPoint}
 use Rattle.enumeration.proofs.RangeOf.{range-holds}
 use Rattle.enumeration.proofs.Product.{S-positive, pattern-in, shape-in}
 use Rattle.enumeration.proofs.Shapes.{S-start}
@@ -36,7 +36,7 @@ module _ (l k n s start : ℕ) (p : IsIndexOf l k n s start) where
       → MakesPoint (record { s = s; k = k; pattern = (n - start) / 2 ^ s / d; shape = (n - start) / 2 ^ s % d; sign = n - start }) l
       × (productPoint l k n
       ≡ writtenFrom (record { s = s; k = k; pattern = (n - start) / 2 ^ s / d; shape = (n - start) / 2 ^ s % d; sign = n - start }) l)
-  unfolding productPoint pointIn B
+  unfolding productPoint pointWithin B
   components-there d e =
       rw (e, ← p .range-s, ← p .range-start) (
         record {

@@ -9,7 +9,7 @@ use lib.IntN.{ℤ}
 use Rattle.counts.specs.Counts.{N, S, B}
 use Rattle.counts.proofs.Pascal.{S-none}
 use Rattle.enumeration.specs.Point.{OnShell, radiusOf, nonzerosIn, shapeIn}
-use Rattle.enumeration.specs.Product.{shapeIndex, weigh, productIndex}
+use Rattle.enumeration.specs.Product.{shapeIndex, indexFrom, productIndex}
 use Rattle.enumeration.proofs.Parts.{shape-part, nonzeros-part}
 use Rattle.enumeration.proofs.Laws.{zero-index}
 use Rattle.enumeration.proofs.Product.{product-lawful, B-positive, index-below}
@@ -42,14 +42,14 @@ no-less : (n b : ℕ) → 0 < b → n ≤ n * b
 no-less n b h = rw mul-one at (mul-le-mul-left n h)
 
 block-within : (l k : ℕ) (w : Weight) → w .pattern * S (w .s) k + (S (w .s) k - 1 - w .after) ≤ weighed l k w
-unfolding weigh
+unfolding indexFrom
 block-within l k w = omega (arith, no-less (w .pattern * S (w .s) k + (S (w .s) k - 1 - w .after)) (B (w .s)) (B-positive (w .s)))
 
 after-below : (l k : ℕ) (x : List ℤ) → OnShell l k x → shapesAfter (shapeIn x) < S (nonzerosIn x) k
 after-below l k x on = rw (← on .of-radius) (omega (arith, shape-and-after x))
 
 pub weighable : (l k : ℕ) (x : List ℤ) → IsUsable l k (N l k) → OnShell l k x → Weighable l k (weightOf x) × (weighed l k (weightOf x) ≡ productIndex x)
-unfolding weigh
+unfolding indexFrom
 weighable l k x u on =
     let most-s = nonzeros-part x in
     let whole = index-weighed l k x on in

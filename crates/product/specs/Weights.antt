@@ -8,7 +8,7 @@ use lib.IntN.{ℤ}
 use lib.ListN.{length}
 use Rattle.counts.specs.Counts.{D, S, B, O}
 use Rattle.enumeration.specs.Point.{sumOf, radiusOf, patternIn, nonzerosIn, shapeIn, signsIn}
-use Rattle.enumeration.specs.Product.{patternIndex, signBit, signIndex, weigh}
+use Rattle.enumeration.specs.Product.{patternIndex, signBit, signIndex, indexFrom}
 use Rattle.product.specs.declared.inner.weigh.Weight.{Weight}
 
 -- How many shapes of as many magnitudes and the same sum come after one: those with a larger first magnitude, of which there are as many as shapes
@@ -62,7 +62,7 @@ pub record Summable (w : Weight) (start shapes signs : ℕ) : Type 0 where
 
 -- the index that a weight makes up in a shell (document 01, "Index =")
 abbrev pub weighed : ℕ → ℕ → Weight → ℕ
-weighed l k w = weigh (w .s) l k (w .pattern) (S (w .s) k - 1 - w .after) (w .sign)
+weighed l k w = indexFrom (w .s) l k (w .pattern) (S (w .s) k - 1 - w .after) (w .sign)
 
 -- what it keeps to; without nonzero coordinates it is 0
 pub record Weighable (l k : ℕ) (w : Weight) : Type 0 where

@@ -2,7 +2,7 @@
 use mathlib.Core.Path.{refl}
 use Rattle.counts.specs.Counts.{N, binomial, D, S, B, sumAfter, rangeSize, rangeStart}
 use Rattle.counts.specs.Width.{width, bitsFrom}
-use Rattle.enumeration.specs.Reading.{rangeFrom, rangeOf, patternOf, firstMagnitude, shapeLeft, shapeOf, signsOf, pointFrom, pointIn, productPoint}
+use Rattle.enumeration.specs.Reading.{rangeFrom, rangeOf, patternOf, firstMagnitude, shapeLeft, shapeOf, signsOf, pointFrom, pointWithin, productPoint}
 use Rattle.tables.specs.Row.{byteOf, enumerationOf, badRadius, badRadii, badRow}
 use Rattle.tables.specs.Table.{rowAt, placesBefore, rowsBefore}
 use Rattle.layout.specs.Layout.{stateAt, recordAt, setCell}
@@ -14,7 +14,7 @@ use Rattle.report.specs.Listing.{linesFrom}
 use Rattle.report.specs.Example.{Example}
 
 pub example : Example
-unfolding N binomial D S B sumAfter rangeSize rangeStart width bitsFrom rangeFrom rangeOf patternOf firstMagnitude shapeLeft shapeOf signsOf pointFrom pointIn productPoint byteOf enumerationOf badRadius badRadii badRow rowAt placesBefore rowsBefore stateAt recordAt setCell badCell takeCell refusals arrive after partsFrom judgeCodeword judgeRecord judge countOf decimal digitsOf linesFrom
+unfolding N binomial D S B sumAfter rangeSize rangeStart width bitsFrom rangeFrom rangeOf patternOf firstMagnitude shapeLeft shapeOf signsOf pointFrom pointWithin productPoint byteOf enumerationOf badRadius badRadii badRow rowAt placesBefore rowsBefore stateAt recordAt setCell badCell takeCell refusals arrive after partsFrom judgeCodeword judgeRecord judge countOf decimal digitsOf linesFrom
 example =
     record {
       whole-case = refl;

@@ -10,7 +10,7 @@ use Rattle.answers.specs.Checks.{pick}
 use Rattle.enumeration.specs.Point.{sumOf}
 use Rattle.tables.specs.Table.{placesIn}
 use Rattle.rules.specs.Judging.{judgeAt, answerNumber}
-use Rattle.rules.specs.Tallying.{countOf, countsOf, answersIn, tallyOf}
+use Rattle.rules.specs.Tallying.{countOf, countsOf, answerAt, tallyOf}
 use Rattle.rules.specs.declared.Judged.{Judged}
 use Rattle.rules.specs.declared.Judged.the-variants as judged
 
@@ -65,4 +65,4 @@ module _ (f : ℕ → ℕ) where
 
 -- document 01's five answers share out the places among them
 pub tally-sum : (t pg : List ℕ) → sumOf (tallyOf t pg) ≡ placesIn t
-tally-sum t pg = counts-sum (answersIn t pg) (placesIn t) (λ p. five-answers (judgeAt t pg p))
+tally-sum t pg = counts-sum (answerAt t pg) (placesIn t) (λ p. five-answers (judgeAt t pg p))

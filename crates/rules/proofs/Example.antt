@@ -3,8 +3,8 @@ use mathlib.Core.Path.{refl}
 use lib.Ieee.{toBits, round}
 use Rattle.counts.specs.Counts.{N, binomial, D, S, B, sumAfter, rangeSize, rangeStart}
 use Rattle.counts.specs.Width.{width, bitsFrom}
-use Rattle.enumeration.specs.Product.{patternIndex, shapeOffset, shapeIndex, signIndex, weigh, productIndex}
-use Rattle.enumeration.specs.Reading.{rangeFrom, rangeOf, patternOf, firstMagnitude, shapeLeft, shapeOf, signsOf, pointFrom, pointIn, productPoint}
+use Rattle.enumeration.specs.Product.{patternIndex, shapeOffset, shapeIndex, signIndex, indexFrom, productIndex}
+use Rattle.enumeration.specs.Reading.{rangeFrom, rangeOf, patternOf, firstMagnitude, shapeLeft, shapeOf, signsOf, pointFrom, pointWithin, productPoint}
 use Rattle.floats.specs.Exact.{over256}
 use Rattle.tables.specs.Row.{byteOf, enumerationOf, badRadius, badRadii, badRow}
 use Rattle.tables.specs.Table.{rowAt, placesBefore, rowsBefore}
@@ -15,7 +15,7 @@ use Rattle.rules.specs.Tallying.{countOf}
 use Rattle.rules.specs.Example.{Example}
 
 pub example : Example
-unfolding toBits round N binomial D S B sumAfter rangeSize rangeStart width bitsFrom patternIndex shapeOffset shapeIndex signIndex weigh productIndex rangeFrom rangeOf patternOf firstMagnitude shapeLeft shapeOf signsOf pointFrom pointIn productPoint over256 byteOf enumerationOf badRadius badRadii badRow rowAt placesBefore rowsBefore stateAt recordAt setCell claims badCell takeCell refusals arrive after partsFrom judgeCodeword judgeRecord judge countOf
+unfolding toBits round N binomial D S B sumAfter rangeSize rangeStart width bitsFrom patternIndex shapeOffset shapeIndex signIndex indexFrom productIndex rangeFrom rangeOf patternOf firstMagnitude shapeLeft shapeOf signsOf pointFrom pointWithin productPoint over256 byteOf enumerationOf badRadius badRadii badRow rowAt placesBefore rowsBefore stateAt recordAt setCell claims badCell takeCell refusals arrive after partsFrom judgeCodeword judgeRecord judge countOf
 example =
     record {
       empty-page = refl;

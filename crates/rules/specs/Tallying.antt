@@ -24,11 +24,11 @@ countOf f a (suc n) = pick (eqb (f n) a) (suc (countOf f a n)) (countOf f a n)
 abbrev pub countsOf : (ℕ → ℕ) → ℕ → List ℕ
 countsOf f n = countOf f 0 n ∷ countOf f 1 n ∷ countOf f 2 n ∷ countOf f 3 n ∷ countOf f 4 n ∷ []
 
-abbrev pub answersIn : List ℕ → List ℕ → ℕ → ℕ
-answersIn t pg p = answerNumber (judgeAt t pg p)
+abbrev pub answerAt : List ℕ → List ℕ → ℕ → ℕ
+answerAt t pg p = answerNumber (judgeAt t pg p)
 
 abbrev pub tallyOf : List ℕ → List ℕ → List ℕ
-tallyOf t pg = countsOf (answersIn t pg) (placesIn t)
+tallyOf t pg = countsOf (answerAt t pg) (placesIn t)
 
 -- what the call tally is to say
 abbrev pub tallySays : List ℕ → List ℕ → List ℕ

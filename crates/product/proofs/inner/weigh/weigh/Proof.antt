@@ -1,6 +1,6 @@
 -- `product::inner::weigh::weigh` is the index that the weight makes up. Assumes nothing.
 use borrow.Author.Needs.{needs}
-use Rattle.enumeration.specs.Product.{weigh}
+use Rattle.enumeration.specs.Product.{indexFrom}
 use Rattle.product.proofs.inner.weigh.weigh.Statement.{statement}
 use Rattle.product.proofs.inner.weigh.weigh.Tie as tie
 
@@ -13,7 +13,7 @@ sum-up-requires c κs =
     (c .before .before .before .before .pre .1 .sums)
 
 returns-2 : tie.Need-returns-2
-unfolding weigh
+unfolding indexFrom
 returns-2 c =
     rw (
       c .sum-up .ensures,

@@ -5,9 +5,8 @@ use lib.IntN.{pos}
 use lib.ListN.{replicate}
 use lib.Seq.{length-take-le}
 use borrow.Author.Needs.{needs}
+use Rattle.cells.proofs.Shown.{seen-shows}
 use Rattle.layout.specs.Layout.{cellAt}
-use Rattle.rules.proofs.Shows.{judge-shows}
-use Rattle.tables.proofs.GoodRow.{row-lawful, row-full}
 use Rattle.report.proofs.inner.block.write_line.Statement.{statement}
 use Rattle.report.proofs.inner.block.write_line.Tie as tie
 
@@ -24,7 +23,7 @@ write-seen-requires c κs =
     let length = c .before .before .before .length in
     let seen = c .before .before .judge-at .ensures in (
       is-row,
-      rw (seen .is-judged) (judge-shows row (row-lawful row) (row-full row) (is-row .row-good) (a .args .number) (cellAt (a .args .page .now) (a .args .place))),
+      seen-shows row (a .args .number) (cellAt (a .args .page .now) (a .args .place)) is-row seen,
       seen .handed,
       length-take-le (length .result .0) (replicate 16 (pos 0)) (omega (arith, length .ensures, is-row .row-good .length-to)) ∙ length .ensures,
       a .pre .2,

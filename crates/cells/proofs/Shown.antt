@@ -1,0 +1,13 @@
+-- What is seen of a cell in a good row can be shown: a point of a usable shell of the row, or none. Assumes nothing.
+use Prim.Native.Nat.{ℕ}
+use mathlib.Core.List.{List}
+use Rattle.layout.specs.Layout.{Cell}
+use Rattle.rules.proofs.Shows.{judge-shows}
+use Rattle.rules.specs.Judging.{Shows}
+use Rattle.tables.proofs.GoodRow.{row-lawful, row-full}
+use Rattle.tables.specs.Row.{IsRow}
+use Rattle.cells.specs.Seen.{Sees}
+use Rattle.cells.specs.declared.inner.judging.Seen.{Seen}
+
+pub seen-shows : (row : List ℕ) (r : ℕ) (c : Cell) {seen : Seen} → IsRow row → Sees row r c seen → Shows row (seen .judged)
+seen-shows row r c is-row sees = rw (sees .is-judged) (judge-shows row (row-lawful row) (row-full row) (is-row .row-good) r c)
