@@ -44,7 +44,8 @@ fn codeword(
     rests: &mut [u32],
     point: &mut [i32],
 ) -> u64
-    requires { ⌜ Codable numbering total (now coefficients) (now magnitudes) × (length (now rests) ≡ length (now coefficients)) × (length (now point) ≡ length (now coefficients)) ⌝ }
+    requires { ⌜ Codable numbering total (now coefficients) (now magnitudes)
+        × (length (now rests) ≡ length (now coefficients)) × (length (now point) ≡ length (now coefficients)) ⌝ }
     ensures { λ n. ⌜ n ≡ indexIn numbering (pointOf (numbering .radius .0) (now (coefficients .entry))) ⌝ }
 {
     share(numbering.radius.0, total, magnitudes, rests);
@@ -60,8 +61,11 @@ fn code(
     rests: &mut [u32],
     point: &mut [i32],
 ) -> Coded
-    requires { ⌜ IsRow (now row) × (length (now coefficients) ≡ lengthOf (now row)) × AllUsable (now coefficients) × (length (now magnitudes) ≡ length (now coefficients)) × (length (now rests) ≡ length (now coefficients)) × (length (now point) ≡ length (now coefficients)) ⌝ }
-    ensures { λ r. ⌜ (r .number ≡ radiusNumberFor (now (row .entry)) (now (coefficients .entry))) × (r .codeword ≡ codewordFor (now (row .entry)) (now (coefficients .entry))) ⌝ }
+    requires { ⌜ IsRow (now row) × (length (now coefficients) ≡ lengthOf (now row)) × AllUsable (now coefficients)
+        × (length (now magnitudes) ≡ length (now coefficients)) × (length (now rests) ≡ length (now coefficients))
+        × (length (now point) ≡ length (now coefficients)) ⌝ }
+    ensures { λ r. ⌜ (r .number ≡ radiusNumberFor (now (row .entry)) (now (coefficients .entry)))
+        × (r .codeword ≡ codewordFor (now (row .entry)) (now (coefficients .entry))) ⌝ }
 {
     let total = measure(coefficients, magnitudes);
     let number = choose(row, total as usize);
@@ -79,7 +83,9 @@ fn code(
 // The record of a vector at a place of the row of this number.
 pub fn write_record(row: &[u8], number: usize, place: usize, coefficients: &[f32], out: &mut [u8])
     requires { ⌜ Accepted (now row) (now coefficients) (now out) ⌝ }
-    ensures { λ _. ⌜ now (out .exit) ≡ recordOf place number (radiusNumberFor (now (row .entry)) (now (coefficients .entry))) (codewordFor (now (row .entry)) (now (coefficients .entry))) ⌝ }
+    ensures { λ _. ⌜ now (out .exit)
+        ≡ recordOf place number (radiusNumberFor (now (row .entry)) (now (coefficients .entry)))
+        (codewordFor (now (row .entry)) (now (coefficients .entry))) ⌝ }
 {
     let n = coefficients.len();
     let mut magnitudes = [0u32; 16];

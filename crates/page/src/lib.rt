@@ -68,7 +68,8 @@ pub enum Tallied {
 
 // The call take: a record into the page. It changes the cell of the record's place and no other byte.
 pub fn take(table: &[u8], page: &mut [u8], bytes: &[u8]) -> Arrival
-    ensures { λ r. ⌜ (takeMeaning r ≡ takeSays (now (table .entry)) (now (page .entry)) (now (bytes .entry))) × (now (page .exit) ≡ takeLeaves (now (table .entry)) (now (page .entry)) (now (bytes .entry))) ⌝ }
+    ensures { λ r. ⌜ (takeMeaning r ≡ takeSays (now (table .entry)) (now (page .entry)) (now (bytes .entry)))
+        × (now (page .exit) ≡ takeLeaves (now (table .entry)) (now (page .entry)) (now (bytes .entry))) ⌝ }
 {
     match survey_page(table, page) {
         Surveyed::Good { places, row: _ } => take_record(table, places, page, bytes),
@@ -79,7 +80,8 @@ pub fn take(table: &[u8], page: &mut [u8], bytes: &[u8]) -> Arrival
 // The call collect: a run of bytes, eight by eight and a shorter last part too, each taken in turn; how many takes were refused. With a bad table
 // or a page of another length all of them are.
 pub fn collect(table: &[u8], page: &mut [u8], bytes: &[u8]) -> usize
-    ensures { λ r. ⌜ (r ≡ collected (now (table .entry)) (now (page .entry)) (now (bytes .entry)) .refused) × (now (page .exit) ≡ collected (now (table .entry)) (now (page .entry)) (now (bytes .entry)) .page) ⌝ }
+    ensures { λ r. ⌜ (r ≡ collected (now (table .entry)) (now (page .entry)) (now (bytes .entry)) .refused)
+        × (now (page .exit) ≡ collected (now (table .entry)) (now (page .entry)) (now (bytes .entry)) .page) ⌝ }
 {
     match survey_page(table, page) {
         Surveyed::Good { places, row: _ } => collect_records(table, places, page, bytes),
@@ -89,7 +91,8 @@ pub fn collect(table: &[u8], page: &mut [u8], bytes: &[u8]) -> usize
 
 // The call read: the point of a place, or zeros, into the lent buffer once every check has passed.
 pub fn read(table: &[u8], page: &[u8], place: usize, out: &mut [i32]) -> Reading
-    ensures { λ r. ⌜ (readMeaning r ≡ readSays (now (table .entry)) (now (page .entry)) place (now (out .entry))) × (now (out .exit) ≡ readLeaves (now (table .entry)) (now (page .entry)) place (now (out .entry))) ⌝ }
+    ensures { λ r. ⌜ (readMeaning r ≡ readSays (now (table .entry)) (now (page .entry)) place (now (out .entry)))
+        × (now (out .exit) ≡ readLeaves (now (table .entry)) (now (page .entry)) place (now (out .entry))) ⌝ }
 {
     match survey_look(table, page, place) {
         Surveyed::Good { places, row } => {
@@ -101,7 +104,8 @@ pub fn read(table: &[u8], page: &[u8], place: usize, out: &mut [i32]) -> Reading
 
 // The call coefficient: one coordinate of a place, as its value.
 pub fn coefficient(table: &[u8], page: &[u8], place: usize, coordinate: usize) -> Valued
-    ensures { λ r. ⌜ (coefficientMeaning r ≡ coefficientSays (now (table .entry)) (now (page .entry)) place coordinate) × (coefficientValues r ≡ coefficientCarries (now (table .entry)) (now (page .entry)) place coordinate) ⌝ }
+    ensures { λ r. ⌜ (coefficientMeaning r ≡ coefficientSays (now (table .entry)) (now (page .entry)) place coordinate)
+        × (coefficientValues r ≡ coefficientCarries (now (table .entry)) (now (page .entry)) place coordinate) ⌝ }
 {
     match survey_look(table, page, place) {
         Surveyed::Good { places, row } => coefficient_at(

@@ -40,7 +40,8 @@ pub fn index(length: Length, radius: Radius, x: &[i32]) -> Indexed
 
 // The call point: the point of an index of the shell, written into the lent buffer once every check has passed.
 pub fn point(length: Length, radius: Radius, n: u64, out: &mut [i32]) -> Pointed
-    ensures { λ r. ⌜ (pointMeaning r ≡ pointSays (length .0) (radius .0) n (now (out .entry))) × (now (out .exit) ≡ pointLeaves (length .0) (radius .0) n (now (out .entry))) ⌝ }
+    ensures { λ r. ⌜ (pointMeaning r ≡ pointSays (length .0) (radius .0) n (now (out .entry)))
+        × (now (out .exit) ≡ pointLeaves (length .0) (radius .0) n (now (out .entry))) ⌝ }
 {
     match check_shell(length, radius) {
         Verdict::Passed => point_usable(Numbering { length, radius }, n, out),
@@ -51,7 +52,8 @@ pub fn point(length: Length, radius: Radius, n: u64, out: &mut [i32]) -> Pointed
 // What index does in a usable shell: the checks 4 and 5, and the work.
 fn index_usable(numbering: Numbering, x: &[i32]) -> Indexed
     requires { ⌜ Usable numbering ⌝ }
-    ensures { λ r. ⌜ indexMeaning r ≡ firstOf (indexRest (numbering .length .0) (numbering .radius .0) (now (x .entry))) (0 ∷ productIndex (now (x .entry)) ∷ []) ⌝ }
+    ensures { λ r. ⌜ indexMeaning r
+        ≡ firstOf (indexRest (numbering .length .0) (numbering .radius .0) (now (x .entry))) (0 ∷ productIndex (now (x .entry)) ∷ []) ⌝ }
 {
     if x.len() != numbering.length.0 {
         return Indexed::Refused(Refusal::BufferLength);
@@ -65,7 +67,11 @@ fn index_usable(numbering: Numbering, x: &[i32]) -> Indexed
 // What point does in a usable shell: the checks 4 and 6, and the work.
 fn point_usable(numbering: Numbering, n: u64, out: &mut [i32]) -> Pointed
     requires { ⌜ Usable numbering ⌝ }
-    ensures { λ r. ⌜ (pointMeaning r ≡ firstOf (pointRest (numbering .length .0) (numbering .radius .0) n (listed.length (now (out .entry)))) (0 ∷ [])) × (now (out .exit) ≡ leaves (pointRest (numbering .length .0) (numbering .radius .0) n (listed.length (now (out .entry)))) (productPoint (numbering .length .0) (numbering .radius .0) n) (now (out .entry))) ⌝ }
+    ensures { λ r. ⌜ (pointMeaning r
+        ≡ firstOf (pointRest (numbering .length .0) (numbering .radius .0) n (listed.length (now (out .entry)))) (0 ∷ []))
+        × (now (out .exit)
+        ≡ leaves (pointRest (numbering .length .0) (numbering .radius .0) n (listed.length (now (out .entry))))
+        (productPoint (numbering .length .0) (numbering .radius .0) n) (now (out .entry))) ⌝ }
 {
     if out.len() != numbering.length.0 {
         return Pointed::Refused(Refusal::BufferLength);

@@ -59,7 +59,8 @@ pub extern "C" fn probe_index(length: usize, radius: usize, x: &[i32]) -> u64
 // The call point, which answers with no value: 0, or the refusal's number.
 #[no_mangle]
 pub extern "C" fn probe_point(length: usize, radius: usize, n: u64, out: &mut [i32]) -> u32
-    ensures { λ r. ⌜ (r ≡ numberSaid (pointSays length radius n (now (out .entry)))) × (now (out .exit) ≡ pointLeaves length radius n (now (out .entry))) ⌝ }
+    ensures { λ r. ⌜ (r ≡ numberSaid (pointSays length radius n (now (out .entry))))
+        × (now (out .exit) ≡ pointLeaves length radius n (now (out .entry))) ⌝ }
 {
     match point(Length(length), Radius(radius), n, out) {
         Pointed::Written => 0,
@@ -131,7 +132,8 @@ pub extern "C" fn probe_quantize(
     coefficients: &[f32],
     out: &mut [u8],
 ) -> u32
-    ensures { λ r. ⌜ (r ≡ numberSaid (quantizeSays (now (table .entry)) place (now (coefficients .entry)) (now (out .entry)))) × (now (out .exit) ≡ quantizeLeaves (now (table .entry)) place (now (coefficients .entry)) (now (out .entry))) ⌝ }
+    ensures { λ r. ⌜ (r ≡ numberSaid (quantizeSays (now (table .entry)) place (now (coefficients .entry)) (now (out .entry))))
+        × (now (out .exit) ≡ quantizeLeaves (now (table .entry)) place (now (coefficients .entry)) (now (out .entry))) ⌝ }
 {
     quantize_number(quantize(table, place, coefficients, out))
 }
@@ -144,7 +146,8 @@ pub extern "C" fn probe_quantize_value(
     coefficients: &[f32],
     out: &mut [u8],
 ) -> usize
-    ensures { λ r. ⌜ (r ≡ valued (quantizeSays (now (table .entry)) place (now (coefficients .entry)) (now (out .entry)))) × (now (out .exit) ≡ quantizeLeaves (now (table .entry)) place (now (coefficients .entry)) (now (out .entry))) ⌝ }
+    ensures { λ r. ⌜ (r ≡ valued (quantizeSays (now (table .entry)) place (now (coefficients .entry)) (now (out .entry))))
+        × (now (out .exit) ≡ quantizeLeaves (now (table .entry)) place (now (coefficients .entry)) (now (out .entry))) ⌝ }
 {
     quantize_value(quantize(table, place, coefficients, out))
 }

@@ -134,7 +134,8 @@ fn tally_item(answer: Tallied, which: usize) -> u64
 // The call take.
 #[no_mangle]
 pub extern "C" fn probe_take(table: &[u8], page: &mut [u8], bytes: &[u8], which: usize) -> u64
-    ensures { λ r. ⌜ (r ≡ getD (takeSays (now (table .entry)) (now (page .entry)) (now (bytes .entry))) which 0) × (now (page .exit) ≡ takeLeaves (now (table .entry)) (now (page .entry)) (now (bytes .entry))) ⌝ }
+    ensures { λ r. ⌜ (r ≡ getD (takeSays (now (table .entry)) (now (page .entry)) (now (bytes .entry))) which 0)
+        × (now (page .exit) ≡ takeLeaves (now (table .entry)) (now (page .entry)) (now (bytes .entry))) ⌝ }
 {
     take_item(page::take(table, page, bytes), which)
 }
@@ -142,7 +143,8 @@ pub extern "C" fn probe_take(table: &[u8], page: &mut [u8], bytes: &[u8], which:
 // The call collect.
 #[no_mangle]
 pub extern "C" fn probe_collect(table: &[u8], page: &mut [u8], bytes: &[u8]) -> usize
-    ensures { λ r. ⌜ (r ≡ collected (now (table .entry)) (now (page .entry)) (now (bytes .entry)) .refused) × (now (page .exit) ≡ collected (now (table .entry)) (now (page .entry)) (now (bytes .entry)) .page) ⌝ }
+    ensures { λ r. ⌜ (r ≡ collected (now (table .entry)) (now (page .entry)) (now (bytes .entry)) .refused)
+        × (now (page .exit) ≡ collected (now (table .entry)) (now (page .entry)) (now (bytes .entry)) .page) ⌝ }
 {
     page::collect(table, page, bytes)
 }
@@ -156,7 +158,8 @@ pub extern "C" fn probe_read(
     out: &mut [i32],
     which: usize,
 ) -> u64
-    ensures { λ r. ⌜ (r ≡ getD (readSays (now (table .entry)) (now (page .entry)) place (now (out .entry))) which 0) × (now (out .exit) ≡ readLeaves (now (table .entry)) (now (page .entry)) place (now (out .entry))) ⌝ }
+    ensures { λ r. ⌜ (r ≡ getD (readSays (now (table .entry)) (now (page .entry)) place (now (out .entry))) which 0)
+        × (now (out .exit) ≡ readLeaves (now (table .entry)) (now (page .entry)) place (now (out .entry))) ⌝ }
 {
     read_item(page::read(table, page, place, out), which)
 }

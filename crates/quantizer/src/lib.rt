@@ -25,7 +25,8 @@ pub enum Quantized {
 
 // The call quantize: the record is written once every check has passed.
 pub fn quantize(table: &[u8], place: usize, coefficients: &[f32], out: &mut [u8]) -> Quantized
-    ensures { λ r. ⌜ (quantizeMeaning r ≡ quantizeSays (now (table .entry)) place (now (coefficients .entry)) (now (out .entry))) × (now (out .exit) ≡ quantizeLeaves (now (table .entry)) place (now (coefficients .entry)) (now (out .entry))) ⌝ }
+    ensures { λ r. ⌜ (quantizeMeaning r ≡ quantizeSays (now (table .entry)) place (now (coefficients .entry)) (now (out .entry)))
+        × (now (out .exit) ≡ quantizeLeaves (now (table .entry)) place (now (coefficients .entry)) (now (out .entry))) ⌝ }
 {
     match survey_place(table, place) {
         Surveyed::Good { places: _, row } => quantize_at(
@@ -48,7 +49,12 @@ fn quantize_at(
     out: &mut [u8],
 ) -> Quantized
     requires { ⌜ IsRow (now row) ⌝ }
-    ensures { λ r. ⌜ (quantizeMeaning r ≡ firstOf (quantizeRest (now (row .entry)) (now (coefficients .entry)) (listed.length (now (out .entry)))) (0 ∷ [])) × (now (out .exit) ≡ leaves (quantizeRest (now (row .entry)) (now (coefficients .entry)) (listed.length (now (out .entry)))) (recordOf place number (radiusNumberFor (now (row .entry)) (now (coefficients .entry))) (codewordFor (now (row .entry)) (now (coefficients .entry)))) (now (out .entry))) ⌝ }
+    ensures { λ r. ⌜ (quantizeMeaning r
+        ≡ firstOf (quantizeRest (now (row .entry)) (now (coefficients .entry)) (listed.length (now (out .entry)))) (0 ∷ []))
+        × (now (out .exit)
+        ≡ leaves (quantizeRest (now (row .entry)) (now (coefficients .entry)) (listed.length (now (out .entry))))
+        (recordOf place number (radiusNumberFor (now (row .entry)) (now (coefficients .entry))) (codewordFor (now (row .entry)) (now (coefficients .entry))))
+        (now (out .entry))) ⌝ }
 {
     if coefficients.len() != length(row).0 {
         return Quantized::Refused(Refusal::BufferLength);

@@ -33,7 +33,9 @@ pub enum Lined {
 
 // The call lines: those of the places from `from` on, as many as there are or as the buffer has room for, 256 bytes each.
 pub fn lines(table: &[u8], page: &[u8], from: usize, out: &mut [u8]) -> Listed
-    ensures { λ r. ⌜ (listedMeaning r ≡ linesSays (now (table .entry)) (now (page .entry)) from (now (out .entry))) × (now (out .exit) ≡ linesLeaves (now (table .entry)) (now (page .entry)) from (now (out .entry))) × (sizeListed r ≤ length (now (out .exit))) ⌝ }
+    ensures { λ r. ⌜ (listedMeaning r ≡ linesSays (now (table .entry)) (now (page .entry)) from (now (out .entry)))
+        × (now (out .exit) ≡ linesLeaves (now (table .entry)) (now (page .entry)) from (now (out .entry)))
+        × (sizeListed r ≤ length (now (out .exit))) ⌝ }
 {
     match survey_look(table, page, from) {
         Surveyed::Good { places, row } => lines_from(table, places, row, page, from, out),
@@ -43,7 +45,9 @@ pub fn lines(table: &[u8], page: &[u8], from: usize, out: &mut [u8]) -> Listed
 
 // The call last_line: the five counts, and the number of refused takes.
 pub fn last_line(counts: Counts, refused: u64, out: &mut [u8]) -> Lined
-    ensures { λ r. ⌜ (linedMeaning r ≡ lineSays (lastLine (countsMeaning counts) refused) (now (out .entry))) × (now (out .exit) ≡ lineLeaves (lastLine (countsMeaning counts) refused) (now (out .entry))) × (sizeLined r ≤ length (now (out .exit))) ⌝ }
+    ensures { λ r. ⌜ (linedMeaning r ≡ lineSays (lastLine (countsMeaning counts) refused) (now (out .entry)))
+        × (now (out .exit) ≡ lineLeaves (lastLine (countsMeaning counts) refused) (now (out .entry)))
+        × (sizeLined r ≤ length (now (out .exit))) ⌝ }
 {
     if out.len() < 256 {
         return Lined::Refused(Refusal::BufferLength);
@@ -61,7 +65,9 @@ pub fn last_line(counts: Counts, refused: u64, out: &mut [u8]) -> Lined
 
 // The call refused_line: what is printed for a refusal.
 pub fn refused_line(refusal: Refusal, out: &mut [u8]) -> Lined
-    ensures { λ r. ⌜ (linedMeaning r ≡ lineSays (refusedText (numberOf refusal)) (now (out .entry))) × (now (out .exit) ≡ lineLeaves (refusedText (numberOf refusal)) (now (out .entry))) × (sizeLined r ≤ length (now (out .exit))) ⌝ }
+    ensures { λ r. ⌜ (linedMeaning r ≡ lineSays (refusedText (numberOf refusal)) (now (out .entry)))
+        × (now (out .exit) ≡ lineLeaves (refusedText (numberOf refusal)) (now (out .entry)))
+        × (sizeLined r ≤ length (now (out .exit))) ⌝ }
 {
     if out.len() < 256 {
         return Lined::Refused(Refusal::BufferLength);

@@ -25,6 +25,7 @@ pub record IsShared (k : ℕ) (ms shares : List ℕ) : Type 0 where
   -- each coordinate has the whole part, or one more
   pub whole-or-more : (i : ℕ) → i < length ms → (getD shares i 0 ≡ wholeAt k ms i) ⊎ (getD shares i 0 ≡ suc (wholeAt k ms i))
   -- where i has one more and j has not, i comes before j
-  pub largest-first : (i j : ℕ) → i < length ms → j < length ms → getD shares i 0 ≡ suc (wholeAt k ms i) → getD shares j 0 ≡ wholeAt k ms j → Before (restAt k ms) i j
+  pub largest-first : (i j : ℕ) → i < length ms → j < length ms
+      → getD shares i 0 ≡ suc (wholeAt k ms i) → getD shares j 0 ≡ wholeAt k ms j → Before (restAt k ms) i j
   -- until the sum is k
   pub sums-to : sumOf shares ≡ k

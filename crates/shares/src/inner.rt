@@ -23,7 +23,8 @@ pub fn sum(numbers: &[u32]) -> u32
 // In the place of each magnitude a the whole part of k x a / A, and in `rests` the remainder.
 fn divide(k: u32, total: u32, magnitudes: &mut [u32], rests: &mut [u32])
     requires { ⌜ (k ≤ 32) × (0 < total) × AllUpTo (2 ^ 23) (now magnitudes) × (length (now rests) ≡ length (now magnitudes)) ⌝ }
-    ensures { λ _. ⌜ (now (magnitudes .exit) ≡ map (wholePart k total) (now (magnitudes .entry))) × (now (rests .exit) ≡ map (remainder k total) (now (magnitudes .entry))) ⌝ }
+    ensures { λ _. ⌜ (now (magnitudes .exit) ≡ map (wholePart k total) (now (magnitudes .entry)))
+        × (now (rests .exit) ≡ map (remainder k total) (now (magnitudes .entry))) ⌝ }
 {
     let mut at = 0;
     while at < magnitudes.len() {
@@ -57,7 +58,8 @@ fn largest(rests: &[u32]) -> usize
 // One more to each of the largest remainders, which are then spent.
 fn give(units: usize, rests: &mut [u32], shares: &mut [u32])
     requires { ⌜ (0 < length (now shares)) × (length (now rests) ≡ length (now shares)) × (sumOf (now shares) + units ≤ 32) ⌝ }
-    ensures { λ _. ⌜ (now (shares .exit) ≡ sharing.give units (now (rests .entry)) (now (shares .entry))) × (now (rests .exit) ≡ leftOf units (now (rests .entry))) ⌝ }
+    ensures { λ _. ⌜ (now (shares .exit) ≡ sharing.give units (now (rests .entry)) (now (shares .entry)))
+        × (now (rests .exit) ≡ leftOf units (now (rests .entry))) ⌝ }
 {
     let mut left = units;
     while 0 < left {
@@ -72,7 +74,8 @@ fn give(units: usize, rests: &mut [u32], shares: &mut [u32])
 // unit.
 pub fn share(k: usize, total: u32, magnitudes: &mut [u32], rests: &mut [u32])
     requires { ⌜ Sharable k total (now magnitudes) (now rests) ⌝ }
-    ensures { λ _. ⌜ (now (magnitudes .exit) ≡ sharing.shared k (now (magnitudes .entry))) × (now (rests .exit) ≡ leftOf (unitsLeft k (now (magnitudes .entry))) (remainders k (now (magnitudes .entry)))) ⌝ }
+    ensures { λ _. ⌜ (now (magnitudes .exit) ≡ sharing.shared k (now (magnitudes .entry)))
+        × (now (rests .exit) ≡ leftOf (unitsLeft k (now (magnitudes .entry))) (remainders k (now (magnitudes .entry)))) ⌝ }
 {
     divide(k as u32, total, magnitudes, rests);
     let units = k - sum(magnitudes) as usize;

@@ -25,7 +25,8 @@ pub extern "C" fn aldrynja_count(length: u64, radius: u64) -> u64
 // The call take: 0, or the number of the refusal.
 #[no_mangle]
 pub extern "C" fn aldrynja_take(table: &[u8], page: &mut [u8], bytes: &[u8]) -> u32
-    ensures { λ n. ⌜ (n ≡ takeGives (now (table .entry)) (now (page .entry)) (now (bytes .entry))) × (now (page .exit) ≡ takeLeaves (now (table .entry)) (now (page .entry)) (now (bytes .entry))) ⌝ }
+    ensures { λ n. ⌜ (n ≡ takeGives (now (table .entry)) (now (page .entry)) (now (bytes .entry)))
+        × (now (page .exit) ≡ takeLeaves (now (table .entry)) (now (page .entry)) (now (bytes .entry))) ⌝ }
 {
     match take(table, page, bytes) {
         Arrival::Taken => 0,

@@ -57,7 +57,8 @@ fn take_cell(page: &mut [u8], places: usize, place: usize, bytes: &[u8])
 // A record into the cell of its place, unless refusal 12 is given for it; whether it is given.
 pub fn arrive(page: &mut [u8], places: usize, place: usize, bytes: &[u8]) -> bool
     requires { ⌜ InPage (now page) places place × (length (now bytes) ≡ recordLength) ⌝ }
-    ensures { λ b. ⌜ (b ≡ badCell place (cellAt (now (page .entry)) place)) × (now (page .exit) ≡ setCell (now (page .entry)) place (arriveCell place (now (bytes .entry)) (cellAt (now (page .entry)) place))) ⌝ }
+    ensures { λ b. ⌜ (b ≡ badCell place (cellAt (now (page .entry)) place))
+        × (now (page .exit) ≡ setCell (now (page .entry)) place (arriveCell place (now (bytes .entry)) (cellAt (now (page .entry)) place))) ⌝ }
 {
     if bad_at(page, places, place) {
         return true;

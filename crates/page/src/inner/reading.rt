@@ -56,8 +56,13 @@ pub fn read_at(
     out: &mut [i32],
 ) -> Reading
     requires { ⌜ IsRow (now row) × InPage (now page) places place ⌝ }
-    ensures says { λ r. ⌜ readMeaning r ≡ firstOf (readRest (now (row .entry)) (now (page .entry)) place (listed.length (now (out .entry)))) (told (judge (now (row .entry)) number (cellAt (now (page .entry)) place))) ⌝ }
-    ensures leaves { λ r. ⌜ now (out .exit) ≡ leaves (readRest (now (row .entry)) (now (page .entry)) place (listed.length (now (out .entry)))) (shown (now (row .entry)) (judge (now (row .entry)) number (cellAt (now (page .entry)) place))) (now (out .entry)) ⌝ }
+    ensures says { λ r. ⌜ readMeaning r
+        ≡ firstOf (readRest (now (row .entry)) (now (page .entry)) place (listed.length (now (out .entry))))
+        (told (judge (now (row .entry)) number (cellAt (now (page .entry)) place))) ⌝ }
+    ensures leaves { λ r. ⌜ now (out .exit)
+        ≡ leaves (readRest (now (row .entry)) (now (page .entry)) place (listed.length (now (out .entry))))
+        (shown (now (row .entry)) (judge (now (row .entry)) number (cellAt (now (page .entry)) place)))
+        (now (out .entry)) ⌝ }
 {
     if out.len() != length(row).0 {
         return Reading::Refused(Refusal::BufferLength);
@@ -82,7 +87,8 @@ fn scaled(c: i32, step: usize) -> f32
 
 // The value of a coordinate of what a place shows.
 fn value_of(row: &[u8], seen: Seen, coordinate: usize) -> f32
-    requires { ⌜ IsRow (now row) × Shows (now row) (seen .judged) × Handed (now row) (seen .judged) (seen .found) × (coordinate < lengthOf (now row)) ⌝ }
+    requires { ⌜ IsRow (now row) × Shows (now row) (seen .judged) × Handed (now row) (seen .judged) (seen .found)
+        × (coordinate < lengthOf (now row)) ⌝ }
     ensures { λ v. ⌜ v ≡ valueIn (now (row .entry)) (shown (now (row .entry)) (seen .judged)) coordinate ⌝ }
 {
     let l = length(row).0;
@@ -121,8 +127,12 @@ pub fn coefficient_at(
     coordinate: usize,
 ) -> Valued
     requires { ⌜ IsRow (now row) × InPage (now page) places place ⌝ }
-    ensures says { λ r. ⌜ coefficientMeaning r ≡ firstOf (coefficientRest (now (row .entry)) (now (page .entry)) place coordinate) (told (judge (now (row .entry)) number (cellAt (now (page .entry)) place))) ⌝ }
-    ensures carries { λ r. ⌜ coefficientValues r ≡ leaves (coefficientRest (now (row .entry)) (now (page .entry)) place coordinate) (carriedBy (now (row .entry)) (judge (now (row .entry)) number (cellAt (now (page .entry)) place)) coordinate) [] ⌝ }
+    ensures says { λ r. ⌜ coefficientMeaning r
+        ≡ firstOf (coefficientRest (now (row .entry)) (now (page .entry)) place coordinate)
+        (told (judge (now (row .entry)) number (cellAt (now (page .entry)) place))) ⌝ }
+    ensures carries { λ r. ⌜ coefficientValues r
+        ≡ leaves (coefficientRest (now (row .entry)) (now (page .entry)) place coordinate)
+        (carriedBy (now (row .entry)) (judge (now (row .entry)) number (cellAt (now (page .entry)) place)) coordinate) [] ⌝ }
 {
     if length(row).0 <= coordinate {
         return Valued::Refused(Refusal::NoSuchCoordinate);

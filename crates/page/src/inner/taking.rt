@@ -15,7 +15,10 @@ ghost use Rattle.page.specs.Meanings.{takeMeaning};
 // What take does with a table and a page that passed: the checks 4, 8 and 12, and the work. The table is what the contract speaks of.
 pub fn take_record(table: &[u8], places: usize, page: &mut [u8], bytes: &[u8]) -> Arrival
     requires { ⌜ Ready (now table) (now page) places ⌝ }
-    ensures { λ r. ⌜ (takeMeaning r ≡ firstOf (takeRest (now (table .entry)) (now (page .entry)) (now (bytes .entry))) (0 ∷ [])) × (now (page .exit) ≡ leaves (takeRest (now (table .entry)) (now (page .entry)) (now (bytes .entry))) (takeInto (now (page .entry)) (now (bytes .entry))) (now (page .entry))) ⌝ }
+    ensures { λ r. ⌜ (takeMeaning r ≡ firstOf (takeRest (now (table .entry)) (now (page .entry)) (now (bytes .entry))) (0 ∷ []))
+        × (now (page .exit)
+        ≡ leaves (takeRest (now (table .entry)) (now (page .entry)) (now (bytes .entry)))
+        (takeInto (now (page .entry)) (now (bytes .entry))) (now (page .entry))) ⌝ }
 {
     if wrong_record(bytes.len()) {
         return Arrival::Refused(Refusal::BufferLength);
@@ -33,7 +36,8 @@ pub fn take_record(table: &[u8], places: usize, page: &mut [u8], bytes: &[u8]) -
 // The same, with 1 for a refusal and 0 for a record that is taken.
 fn refusals_of(table: &[u8], places: usize, page: &mut [u8], bytes: &[u8]) -> usize
     requires { ⌜ Ready (now table) (now page) places ⌝ }
-    ensures { λ r. ⌜ (r ≡ refusals (now (table .entry)) (now (page .entry)) (now (bytes .entry))) × (now (page .exit) ≡ takeLeaves (now (table .entry)) (now (page .entry)) (now (bytes .entry))) × (r ≤ 1) ⌝ }
+    ensures { λ r. ⌜ (r ≡ refusals (now (table .entry)) (now (page .entry)) (now (bytes .entry)))
+        × (now (page .exit) ≡ takeLeaves (now (table .entry)) (now (page .entry)) (now (bytes .entry))) × (r ≤ 1) ⌝ }
 {
     match take_record(table, places, page, bytes) {
         Arrival::Taken => 0,
@@ -65,7 +69,8 @@ pub fn parts(bytes: usize) -> usize
 // What collect does with a table and a page that passed.
 pub fn collect_records(table: &[u8], places: usize, page: &mut [u8], bytes: &[u8]) -> usize
     requires { ⌜ Ready (now table) (now page) places ⌝ }
-    ensures { λ r. ⌜ (r ≡ collected (now (table .entry)) (now (page .entry)) (now (bytes .entry)) .refused) × (now (page .exit) ≡ collected (now (table .entry)) (now (page .entry)) (now (bytes .entry)) .page) ⌝ }
+    ensures { λ r. ⌜ (r ≡ collected (now (table .entry)) (now (page .entry)) (now (bytes .entry)) .refused)
+        × (now (page .exit) ≡ collected (now (table .entry)) (now (page .entry)) (now (bytes .entry)) .page) ⌝ }
 {
     let mut at = 0;
     let mut refused = 0;

@@ -18,7 +18,8 @@ ghost use Rattle.tables.specs.Row.{lengthOf, IsRow};
 
 // The point of an index in a row, by where it stands.
 fn write_found(row: &[u8], radius: usize, n: u64, found: Found, out: &mut [i32])
-    requires { ⌜ IsRow (now row) × NamesPoint (now row) radius n × FoundIn (now row) radius n found × (listed.length (now out) ≡ lengthOf (now row)) ⌝ }
+    requires { ⌜ IsRow (now row) × NamesPoint (now row) radius n × FoundIn (now row) radius n found
+        × (listed.length (now out) ≡ lengthOf (now row)) ⌝ }
     ensures { λ _. ⌜ now (out .exit) ≡ pointNamed (now (row .entry)) radius n ⌝ }
 {
     write_point(of_radius(row, Radius(radius)), n, found, out);
@@ -46,7 +47,8 @@ fn clear(out: &mut [i32])
 
 // The point of a place that is sound or mended, and zeros for the others.
 pub fn show(row: &[u8], seen: Seen, out: &mut [i32])
-    requires { ⌜ IsRow (now row) × Shows (now row) (seen .judged) × Handed (now row) (seen .judged) (seen .found) × (listed.length (now out) ≡ lengthOf (now row)) ⌝ }
+    requires { ⌜ IsRow (now row) × Shows (now row) (seen .judged) × Handed (now row) (seen .judged) (seen .found)
+        × (listed.length (now out) ≡ lengthOf (now row)) ⌝ }
     ensures { λ _. ⌜ now (out .exit) ≡ shown (now (row .entry)) (seen .judged) ⌝ }
 {
     let judged = seen.judged;

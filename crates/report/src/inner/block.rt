@@ -53,7 +53,8 @@ fn write_seen(
     at: usize,
     out: &mut [u8],
 ) -> usize
-    requires { ⌜ IsRow (now row) × Shows (now row) (seen .judged) × Handed (now row) (seen .judged) (seen .found) × (listed.length (now point) ≡ lengthOf (now row)) × (at + lineSpace ≤ listed.length (now out)) ⌝ }
+    requires { ⌜ IsRow (now row) × Shows (now row) (seen .judged) × Handed (now row) (seen .judged) (seen .found)
+        × (listed.length (now point) ≡ lengthOf (now row)) × (at + lineSpace ≤ listed.length (now out)) ⌝ }
     ensures { λ r. ⌜ Wrote (now (out .entry)) at (lineOf (now (row .entry)) place (seen .judged)) lineSpace r (now (out .exit)) ⌝ }
 {
     show(row, seen, point);
@@ -91,7 +92,8 @@ fn write_lines(
     out: &mut [u8],
 ) -> usize
     requires { ⌜ HasRoom (now table) row (now page) places from to (now out) ⌝ }
-    ensures { λ r. ⌜ Wrote (now (out .entry)) 0 (linesFrom (now (table .entry)) (now (page .entry)) from (to - from)) (lineSpace * (to - from)) r (now (out .exit)) ⌝ }
+    ensures { λ r. ⌜ Wrote (now (out .entry)) 0 (linesFrom (now (table .entry)) (now (page .entry)) from (to - from))
+        (lineSpace * (to - from)) r (now (out .exit)) ⌝ }
 {
     let mut walk = walk_from(table, row, from);
     let mut end = 0;
@@ -124,8 +126,13 @@ pub fn lines_from(
     out: &mut [u8],
 ) -> Listed
     requires { ⌜ Listable (now table) (now page) from places row ⌝ }
-    ensures says { λ r. ⌜ listedMeaning r ≡ firstOf (linesRest (now (table .entry)) (now (page .entry)) from (listed.length (now (out .entry)))) (linesAnswer (now (table .entry)) (now (page .entry)) from (listed.length (now (out .entry)))) ⌝ }
-    ensures leaves { λ r. ⌜ now (out .exit) ≡ leaves (linesRest (now (table .entry)) (now (page .entry)) from (listed.length (now (out .entry)))) (startingWith (linesText (now (table .entry)) (now (page .entry)) from (listed.length (now (out .entry)))) (now (out .entry))) (now (out .entry)) ⌝ }
+    ensures says { λ r. ⌜ listedMeaning r
+        ≡ firstOf (linesRest (now (table .entry)) (now (page .entry)) from (listed.length (now (out .entry))))
+        (linesAnswer (now (table .entry)) (now (page .entry)) from (listed.length (now (out .entry)))) ⌝ }
+    ensures leaves { λ r. ⌜ now (out .exit)
+        ≡ leaves (linesRest (now (table .entry)) (now (page .entry)) from (listed.length (now (out .entry))))
+        (startingWith (linesText (now (table .entry)) (now (page .entry)) from (listed.length (now (out .entry)))) (now (out .entry)))
+        (now (out .entry)) ⌝ }
     ensures fits { λ r. ⌜ sizeListed r ≤ listed.length (now (out .exit)) ⌝ }
 {
     if out.len() < 256 {
