@@ -6,6 +6,9 @@ ghost use Rattle.records.specs.Record.{recordLength};
 ghost use Rattle.layout.specs.Bounds.{InPage};
 ghost use Rattle.layout.specs.Layout.{pageLength, pageLengthCheck, stateAt, recordAt, setCell};
 
+// Room for the longest page, of 4,096 places.
+pub const PAGE_ROOM: usize = 36864;
+
 // The bytes of a page of so many places.
 pub fn page_length(places: usize) -> usize
     requires { ⌜ places ≤ 4096 ⌝ }

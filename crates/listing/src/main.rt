@@ -7,6 +7,7 @@ use inner::input::read_table;
 use inner::input::take_records;
 use inner::output::print_page;
 use inner::output::print_refused;
+use layout::inner::PAGE_ROOM;
 use layout::inner::page_length;
 use pairing::Checked;
 use pairing::check;
@@ -16,7 +17,7 @@ ghost use Prim.Native.Nat.{_≤_};
 fn list(table: &[u8], places: usize)
     requires { ⌜ places ≤ 4096 ⌝ }
 {
-    let mut room = [0u8; 36864];
+    let mut room = [0u8; PAGE_ROOM];
     let size = page_length(places);
     let page = &mut room[..size];
     let refused = take_records(table, page);
