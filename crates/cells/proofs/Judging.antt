@@ -13,7 +13,7 @@ use Rattle.rules.specs.Judging.{judgeCodeword, judgeIn, judgeRecord}
 use Rattle.rules.specs.declared.Judged.{Judged}
 use Rattle.rules.specs.declared.Judged.the-variants as judged
 use Rattle.numbering.specs.declared.inner.Found.{Found}
-use Rattle.cells.specs.Seen.{Handed, NotSound}
+use Rattle.cells.specs.Seen.{Nowhere, Handed, NotSound}
 use Rattle.cells.specs.declared.inner.judging.Seen.{Seen}
 
 -- the width of what a usable shell has
@@ -54,14 +54,14 @@ module _ (row : List ℕ) (r : ℕ) (y : List ℕ) where
     unfolding judgeRecord
     record-judged h = rw (eq-eqb (rowIn y) r here, lt-leb (radiiOf row) (radiusNumberIn y) h) refl
 
--- an answer that is not sound needs nothing found
-none-handed : (row : List ℕ) (j : Judged) (found : Found) → NotSound j → Handed row j found
-none-handed row (judged.Sound k n) found none = absurd none
-none-handed row (judged.Mended k n) found none = tt
-none-handed row judged.Missing found none = tt
-none-handed row judged.Contested found none = tt
-none-handed row (judged.Unreadable reason) found none = tt
+-- of an answer that is not sound nothing was found
+none-handed : (row : List ℕ) (j : Judged) (found : Found) → NotSound j → Nowhere found → Handed row j found
+none-handed row (judged.Sound k n) found none nowhere = absurd none
+none-handed row (judged.Mended k n) found none nowhere = nowhere
+none-handed row judged.Missing found none nowhere = nowhere
+none-handed row judged.Contested found none nowhere = nowhere
+none-handed row (judged.Unreadable reason) found none nowhere = nowhere
 
-pub seen-as : (row : List ℕ) (seen : Seen) {j answer : Judged} → seen .judged ≡ j → NotSound j → j ≡ answer
+pub seen-as : (row : List ℕ) (seen : Seen) {j answer : Judged} → (seen .judged ≡ j) × Nowhere (seen .found) → NotSound j → j ≡ answer
     → (seen .judged ≡ answer) × Handed row (seen .judged) (seen .found)
-seen-as row seen is-j none same = (is-j ∙ same, none-handed row (seen .judged) (seen .found) (rw is-j none))
+seen-as row seen unseen none same = (unseen .0 ∙ same, none-handed row (seen .judged) (seen .found) (rw (unseen .0) none) (unseen .1))

@@ -10,13 +10,17 @@ use Rattle.rules.specs.declared.Judged.{Judged}
 use Rattle.rules.specs.declared.Judged.the-variants as judged
 use Rattle.cells.specs.declared.inner.judging.Seen.{Seen}
 
+-- nothing was found
+abbrev pub Nowhere : Found → Type 0
+Nowhere found = (found .s ≡ 0) × (found .start ≡ 0)
+
 -- what was found serves to show the answer: of a sound place, where its index stands; of the others nothing was found
 abbrev pub Handed : List ℕ → Judged → Found → Type 0
 Handed row (judged.Sound k n) found = FoundIn row k n found
-Handed row (judged.Mended k n) found = Unit {0}
-Handed row judged.Missing found = Unit {0}
-Handed row judged.Contested found = Unit {0}
-Handed row (judged.Unreadable reason) found = Unit {0}
+Handed row (judged.Mended k n) found = Nowhere found
+Handed row judged.Missing found = Nowhere found
+Handed row judged.Contested found = Nowhere found
+Handed row (judged.Unreadable reason) found = Nowhere found
 
 -- an answer that asks for nothing found
 abbrev pub NotSound : Judged → Type 0

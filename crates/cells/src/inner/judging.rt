@@ -18,7 +18,7 @@ ghost use lib.ListN.{length};
 ghost use Rattle.tables.specs.Row.{radiiOf, radiusAt, IsRow};
 ghost use Rattle.records.specs.Record.{recordLength};
 ghost use Rattle.rules.specs.Judging.{judgeCodeword, judgeIn, judgeRecord};
-ghost use Rattle.cells.specs.Seen.{NotSound, Handed, Sees};
+ghost use Rattle.cells.specs.Seen.{NotSound, Nowhere, Handed, Sees};
 
 // The answer of a cell, and where the index of a sound one stands, so that the point need not be sought again.
 pub struct Seen {
@@ -43,7 +43,7 @@ fn judge_past(total: u64, radius: Radius, n: u64) -> Judged
 
 // An answer that shows no point, or one that is still to be sought.
 fn unseen(judged: Judged) -> Seen
-    ensures { λ r. ⌜ r .judged ≡ judged ⌝ }
+    ensures { λ r. ⌜ (r .judged ≡ judged) × Nowhere (r .found) ⌝ }
 {
     Seen {
         judged,
