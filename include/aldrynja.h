@@ -1,8 +1,9 @@
-/* Aldrynja for C: the count of the points of a shell, and the taking of a record into a page.
+/* Aldrynja for C: the count of the points of a shell, the taking of a record into a page, and the version of both.
 
-   `rt staticlib slate` writes target/staticlib/libslate.a, an archive for x86-64 Linux; link with it and the C library. The rules are the
-   editor's document 01, whose headings the comments cite. Neither call keeps anything from one call to the next, allocates memory, stops the
-   program or writes to anything but the page that it is lent. */
+   `rt staticlib slate` writes target/staticlib/libslate.a, an archive for x86-64 Linux; link with it and the C library.
+   `tools/install DESTDIR` installs both. The rules are those of docs/RULES.md, whose headings the comments cite.
+   No call keeps anything from one call to the next, allocates memory, stops the program, or writes to anything but the
+   page that the call is lent. */
 
 #ifndef ALDRYNJA_H
 #define ALDRYNJA_H
@@ -14,9 +15,16 @@
 extern "C" {
 #endif
 
-/* "Points and counts": N(length, radius), how many vectors of `length` whole numbers have absolute values that sum to `radius`. Both may be any
-   numbers of 64 bits. It gives 0 where the count is refused, and only there: the length is outside 1 to 16, the radius is above 32, or N is
-   above 2^32. */
+/* "Calls for C": the version of this header, and of the formats that its calls take. The version is raised when a
+   program that was built for the version before would be given something else. */
+#define ALDRYNJA_VERSION 1
+
+/* The version of the archive. A program may refuse to run where it is not ALDRYNJA_VERSION. */
+uint32_t aldrynja_version(void);
+
+/* "Points and counts": N(length, radius), how many vectors of `length` whole numbers have magnitudes that sum to
+   `radius`. Both may be any numbers of 64 bits. The call gives 0 where the count is refused, and only there: the length
+   is outside 1 to 16, the radius is above 32, or N is above 2^32. */
 uint64_t aldrynja_count(uint64_t length, uint64_t radius);
 
 /* "Refusal numbers": what the taking of a record can give. */
@@ -25,7 +33,7 @@ enum {
     ALDRYNJA_BUFFER_LENGTH = 4, /* the record is not 8 bytes, or the page not 9 for each place of the table */
     ALDRYNJA_BAD_TABLE = 7,     /* the pairing table is bad; its row is not told */
     ALDRYNJA_NO_SUCH_PLACE = 8, /* the record's place is not in the table */
-    ALDRYNJA_BAD_CELL = 12      /* at the record's place the page has a state above 2, or holds a record of another place */
+    ALDRYNJA_BAD_CELL = 12      /* the cell of the record's place has a state above 2, or a record of another place */
 };
 
 /* "The page": takes a record into a page.
@@ -34,11 +42,12 @@ enum {
    page    9 bytes a place, a state and a record; a new page is all zeros
    record  the 8 bytes that arrived; they are only read
 
-   It gives 0, and in the page the record's place has gone by the page rule and no other byte has changed. Or it gives the number of the first
-   check that fails, in the order 7, 4, 8, 12, and every byte of the page is as it was. The bytes of all three may be any, and so may their
-   lengths, which are in bytes. A buffer of length 0 may have any pointer, a null pointer too. The three buffers must not overlap. */
-uint32_t aldrynja_take(const uint8_t *table, size_t table_length, uint8_t *page, size_t page_length, const uint8_t *record,
-                       size_t record_length);
+   The call gives 0, and in the page the cell of the record's place has gone by the page rule and no other byte has
+   changed. Or the call gives the number of the first check that fails, in the order 7, 4, 8, 12, and every byte of the
+   page is as it was. The bytes of all three may be any, and so may their lengths, which are in bytes. A buffer of
+   length 0 may have any pointer, a null pointer too. The three buffers must not overlap. */
+uint32_t aldrynja_take(const uint8_t *table, size_t table_length, uint8_t *page, size_t page_length,
+                       const uint8_t *record, size_t record_length);
 
 #ifdef __cplusplus
 }

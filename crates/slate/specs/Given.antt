@@ -8,6 +8,11 @@ use Rattle.counts.specs.Counts.{N}
 use Rattle.tables.specs.Usable.{shellChecks}
 use Rattle.rules.specs.Taking.{takeSays}
 
+-- the version of include/aldrynja.h and of the formats that its calls take: raised when a program that was built for
+-- the version before would be given something else
+abbrev pub version : ℕ
+version = 1
+
 -- "There the count gives 0 for a refusal", and else N
 abbrev pub countGives : ℕ → ℕ → ℕ
 countGives l k = leaves (shellChecks l k (N l k)) (N l k) 0

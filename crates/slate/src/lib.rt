@@ -1,5 +1,5 @@
-// The calls count and take for the layout program, which is written in C: include/aldrynja.h declares them. Each is the Rattle call and nothing more,
-// by numbers and byte buffers.
+// The calls for the layout program, which is written in C: include/aldrynja.h declares them. Count and take are the
+// Rattle calls and nothing more, by numbers and byte buffers; the version tells which header the archive goes with.
 use answers::number;
 use counts::Length;
 use counts::Radius;
@@ -9,7 +9,15 @@ use shell::Counted;
 use shell::count;
 ghost use mathlib.Core.Path.{_≡_};
 ghost use Rattle.rules.specs.Taking.{takeLeaves};
-ghost use Rattle.slate.specs.Given.{countGives, takeGives};
+ghost use Rattle.slate.specs.Given.{version, countGives, takeGives};
+
+// The version of the calls and of what they are lent.
+#[no_mangle]
+pub extern "C" fn aldrynja_version() -> u32
+    ensures { λ n. ⌜ n ≡ version ⌝ }
+{
+    1
+}
 
 // The call count: N, or 0 for a refusal.
 #[no_mangle]
