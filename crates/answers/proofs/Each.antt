@@ -1,5 +1,5 @@
--- A check for each number, as a loop goes through them: from i on there are n - i of n left. While they pass, what is left decides; and all
--- pass exactly when each does. Assumes nothing.
+-- A check for each number, as a loop goes through them: from i on there are n - i of n left. While they pass, what
+-- is left decides; and all pass exactly when each does.
 use Prim.Native.Nat.{ℕ, zero, suc, _+_, _-_, _≤_, _<_}
 use mathlib.Core.Path.{_≡_, ap, _∙_}
 use mathlib.Core.List.{List, _∷_}

@@ -1,5 +1,6 @@
--- The law of the order of checks, once for all calls: a call says number n exactly when n's check fails and none before it does, and it
--- answers exactly when none fails. Each way round is a law of its own. A call that refuses leaves a lent buffer as it was. Assumes nothing.
+-- The law of the order of checks, once for all calls: a call says number n exactly when n's check fails and none
+-- before it does, and it answers exactly when none fails. Each way round is a law of its own. A call that refuses
+-- leaves a lent buffer as it was.
 use Prim.Native.Nat.{ℕ, suc, _<_}
 use mathlib.Core.Path.{_≡_, refl, sym, ap, ap₂, _∙_}
 use mathlib.Core.List.{List, [], _∷_, _++_}
@@ -120,7 +121,8 @@ refusal-leaves made held a cs r e =
     let b = refusal-refuses a cs r e in
     sym (refuses-leaves made held cs (suc (b .0)) (b .1) (b .3))
 
--- Checks cs, and then checks ds: a refusal of cs stands and leaves a lent buffer as it was, and where cs pass, ds decide.
+-- Checks cs, and then checks ds: a refusal of cs stands and leaves a lent buffer as it was, and where cs pass, ds
+-- decide.
 module _ (cs ds : List Check) where
   says-then : (answer : List ℕ) → firstOf (cs ++ ds) answer ≡ firstOf cs (firstOf ds answer)
   says-then answer = go cs

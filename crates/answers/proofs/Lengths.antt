@@ -1,4 +1,4 @@
--- A lent buffer that is not refused 4 has the length that is asked. Assumes nothing.
+-- A lent buffer that is not refused 4 has the length that is asked.
 use Prim.Native.Nat.{ℕ}
 use mathlib.Core.Bool.{false}
 use mathlib.Core.Path.{_≡_}

@@ -1,4 +1,4 @@
--- Checks that all have one number: whichever of them fails, that number is said. Assumes nothing.
+-- Checks that all have one number: whichever of them fails, that number is said.
 use Prim.Native.Nat.{ℕ, zero, suc}
 use mathlib.Core.Bool.{Bool, true, false, _||_}
 use mathlib.Core.List.{List, [], _∷_, _++_, append-nil}

@@ -1,5 +1,6 @@
--- Answers that say the same are the same: what was said is read back, a refusal by `refusalOf` and any call's answer by `answerOf`. A
--- refusal begins with a number above 0, and an answer with 0, so neither is taken for the other. Assumes nothing.
+-- Answers that say the same are the same: what was said is read back, a refusal by `refusalOf` and any call's
+-- answer by `answerOf`. A refusal begins with a number above 0, and an answer with 0, so neither is taken for the
+-- other.
 use Prim.Native.Nat.{ℕ, zero, suc, _≤_}
 use mathlib.Core.Path.{_≡_, refl, sym, ap, _∙_}
 use mathlib.Core.List.{List, [], _∷_}

@@ -1,5 +1,6 @@
--- The order of checks as data (document 01, "Order of checks"): a call's checks stand in a list, in the order in which it makes them,
--- and the first that fails gives the refusal. An answer's meaning begins with 0 and a refusal's with its number. Assumes nothing.
+-- The order of checks as data (docs/RULES.md, "Order of checks"): a call's checks stand in a list, in the order in
+-- which it makes them, and the first that fails gives the refusal. An answer's meaning begins with 0 and a
+-- refusal's with its number.
 use Prim.Native.Nat.{ℕ, zero, suc}
 use mathlib.Core.List.{List, [], _∷_}
 use mathlib.Core.Bool.{Bool, true, false, not, _||_}
@@ -8,7 +9,8 @@ use mathlib.Core.Logic.{_⊎_}
 use lib.Dec.{eqb}
 use lib.ListN.{getD}
 
--- One check: the refusal number, the values named with it, and whether it is given, as the table's "given exactly when".
+-- One check: the refusal number, the values named with it, and whether it is given, as the table's "given exactly
+-- when".
 pub record Check : Type 0 where
   pub number : ℕ
   pub values : List ℕ
@@ -49,7 +51,8 @@ wrongLength b n = not (eqb b n)
 abbrev pub lengthCheck : ℕ → ℕ → Check
 lengthCheck b n = record { number = 4; values = []; fails = wrongLength b n }
 
--- a check for each number from i on, n of them: so rows, coordinates and places are judged, and the lowest at fault is named
+-- a check for each number from i on, n of them: so rows, coordinates and places are judged, and the lowest at fault
+-- is named
 abbrev pub eachFrom : (ℕ → Check) → ℕ → ℕ → List Check
 eachFrom c i zero = []
 eachFrom c i (suc n) = c i ∷ eachFrom c (suc i) n

@@ -1,5 +1,5 @@
--- Checks in turn, written out: the first that fails is told, with what it names, and a buffer is then left as it was; and each refusal by its number and
--- what it names. proofs/Example.antt computes every line. Assumes nothing.
+-- Checks in turn, written out: the first that fails is told, with what it names, and a buffer is then left as it
+-- was; and each refusal by its number and what it names. proofs/Example.antt computes every line.
 use Prim.Native.Nat.{ℕ}
 use mathlib.Core.Path.{_≡_}
 use mathlib.Core.List.{[], _∷_}

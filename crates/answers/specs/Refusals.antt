@@ -1,5 +1,5 @@
--- What a refusal says: its number in document 01's table "Refusal numbers", then the values that the table names in brackets (for 12,
--- the place that the tally names), at most two. Assumes nothing.
+-- What a refusal says: its number in the table of docs/RULES.md, "Refusal numbers", then the values that the table
+-- names (for 12, the place that the tally names), at most two.
 use Prim.Native.Nat.{ℕ}
 use mathlib.Core.List.{List, [], _∷_}
 use lib.ListN.{getD}

@@ -1,5 +1,6 @@
-// The refusals of document 01, "Refusal numbers": one enum for every call. A case carries what the table names in brackets, or, for the
-// tally, the place; `meaning` in specs/Refusals.antt gives each case the document's number and values.
+// The refusals of docs/RULES.md, "Refusal numbers": one enum for every call. A case carries what the table names in
+// brackets, or, for the tally, the place; `meaning` in specs/Refusals.antt gives each case the number and the
+// values of the rules.
 ghost use mathlib.Core.Path.{_≡_};
 ghost use Rattle.answers.specs.Refusals.{numberOf, firstNamed, secondNamed};
 
@@ -30,7 +31,8 @@ pub enum Refusal {
     NoSuchCoordinate,
 }
 
-// A refusal in numbers: its own, and those of the row, coordinate or place that it names, at most two; 0 where it names none.
+// A refusal in numbers: its own, and those of the row, coordinate or place that it names, at most two; 0 where it
+// names none.
 pub struct Numbers(pub u32, pub usize, pub usize);
 
 // What a check answers that has nothing to tell but whether it passed.

@@ -1,4 +1,5 @@
--- What is read from a buffer once something is written into it: the text where it stands, and beside it what was there. Assumes nothing.
+-- What is read from a buffer once something is written into it: the text where it stands, and beside it what was
+-- there.
 use Prim.Native.Nat.{ℕ, zero, suc, _+_, _≤_, _<_}
 use mathlib.Core.List.{List, [], _∷_}
 use mathlib.Core.Logic.{_⊎_, ⊎-elim}

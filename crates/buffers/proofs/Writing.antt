@@ -1,10 +1,14 @@
--- A buffer that is written one element after the other. Assumes nothing.
---     none-written, fills, fills-map, fills-with     nothing yet; one element more by a store: any, of a mapped list, a constant
+-- A buffer that is written one element after the other.
+--     none-written, fills, fills-map, fills-with     nothing yet; one element more by a store: any, of a mapped
+--                                                    list, a constant
 --     not-reached, written-length                    what is not written yet is as it was; so is the length
---     written-between, begins-with                   the text stands between two parts that are as they were, or before one
---     all-written, all-with, all-behind              the whole buffer is written: any, a constant, an element and others behind it
+--     written-between, begins-with                   the text stands between two parts that are as they were, or
+--                                                    before one
+--     all-written, all-with, all-behind              the whole buffer is written: any, a constant, an element and
+--                                                    others behind it
 --     wrote-none, wrote-one, wrote-all               a text is written: nothing, one element, all that a loop wrote
---     wrote-then, wrote-to, wrote-length             one text behind another; another bound; the buffer is as long as before
+--     wrote-then, wrote-to, wrote-length             one text behind another; another bound; the buffer is as long
+--                                                    as before
 use Prim.Native.Nat.{ℕ, zero, suc, _+_, _≤_, _<_}
 use mathlib.Core.List.{List, [], _∷_, _++_, map, append-nil}
 use mathlib.Core.Path.{_≡_, refl, sym, ap, _∙_}

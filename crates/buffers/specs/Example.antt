@@ -1,5 +1,5 @@
--- A buffer of four numbers, written: an element more or fewer, another place to begin at, or a change beside the text, and a line disagrees.
--- proofs/Example.antt computes every line. Assumes nothing.
+-- A buffer of four numbers, written: an element more or fewer, another place to begin at, or a change beside the
+-- text, and a line disagrees. proofs/Example.antt computes every line.
 use Prim.Native.Nat.{ℕ}
 use mathlib.Core.Path.{_≡_}
 use mathlib.Core.List.{List, [], _∷_}

@@ -1,5 +1,5 @@
-// The cases of the call check, and of the rows of places. A table is given by its size in bytes, the 16 bytes of the row that it has again and
-// again, and then changes, each a position and what stands there.
+// The cases of the call check, and of the rows of places. A table is given by its size in bytes, the 16 bytes of
+// the row that it has again and again, and then changes, each a position and what stands there.
 use pairing::Checked;
 use pairing::inner::survey::Surveyed;
 use pairing::inner::survey::survey;

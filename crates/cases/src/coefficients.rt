@@ -1,5 +1,5 @@
-// The cases of the call quantize, and of the whole number that a coefficient becomes. A coefficient is given by its bit pattern. The record is lent
-// full of nines, so that a refused call is seen to leave it.
+// The cases of the call quantize, and of the whole number that a coefficient becomes. A coefficient is given by its
+// bit pattern. The record is lent full of nines, so that a refused call is seen to leave it.
 use crate::checks;
 use answers::Refusal;
 use floats::inner::is_unusable;
@@ -27,7 +27,8 @@ pub fn nearest(numbers: &[u64]) {
     }
 }
 
-// quantize P B C, then C coefficients and a table: what the call says of place P with a record of B bytes, and what these are then.
+// quantize P B C, then C coefficients and a table: what the call says of place P with a record of B bytes, and what
+// these are then.
 pub fn quantize(numbers: &[u64], room: &mut [u8]) {
     let mut coefficients = [0.0f32; 20];
     let count = number(numbers, 2) as usize;

@@ -1,4 +1,5 @@
-// The lines of the input, one after the other: each is written again, and if it is a case, it is run. The room is lent to the cases.
+// The lines of the input, one after the other: each is written again, and if it is a case, it is run. The room is
+// lent to the cases.
 use crate::checks;
 use crate::coefficients;
 use crate::indices;

@@ -1,5 +1,5 @@
-// The cases of the calls of the page. A line has two numbers for the call, then the size and the bytes of the page, the size and the bytes of
-// what arrives, and a table. A buffer for a point is lent full of nines.
+// The cases of the calls of the page. A line has two numbers for the call, then the size and the bytes of the page,
+// the size and the bytes of what arrives, and a table. A buffer for a point is lent full of nines.
 use crate::checks;
 use crate::coefficients::bytes;
 use crate::indices::coordinates;

@@ -1,4 +1,4 @@
--- What the answer of a held record goes by, as the code tests it. Assumes nothing.
+-- What the answer of a held record goes by, as the code tests it.
 use Prim.Native.Nat.{ℕ, _-_, _^_, _≤_, _<_}
 use mathlib.Core.List.{List}
 use mathlib.Core.Path.{_≡_, refl, _∙_}

@@ -1,4 +1,4 @@
--- What is seen of a cell in a good row can be shown: a point of a usable shell of the row, or none. Assumes nothing.
+-- What is seen of a cell in a good row can be shown: a point of a usable shell of the row, or none.
 use Prim.Native.Nat.{ℕ}
 use mathlib.Core.List.{List}
 use Rattle.layout.specs.Layout.{Cell}

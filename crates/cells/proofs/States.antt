@@ -1,4 +1,4 @@
--- What goes by the state of a cell, as the code tests it: refusal 12, the page rule and the answer. Assumes nothing.
+-- What goes by the state of a cell, as the code tests it: refusal 12, the page rule and the answer.
 use Prim.Native.Nat.{ℕ, zero, suc, _≤_, _<_}
 use mathlib.Core.Bool.{or-false, true, false, not}
 use mathlib.Core.List.{List}

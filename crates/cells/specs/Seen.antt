@@ -1,4 +1,4 @@
--- What is seen of a cell: its answer, and what was found of it on the way. Assumes nothing.
+-- What is seen of a cell: its answer, and what was found of it on the way.
 use Prim.Native.Nat.{ℕ}
 use mathlib.Core.List.{List}
 use mathlib.Core.Path.{_≡_}

@@ -1,3 +1,2 @@
-// These are no calls: what they require, each caller is proved to meet.
 pub mod judging;
 pub mod rule;

@@ -1,5 +1,5 @@
--- What it means that quantize accepts coefficients: the table is good, the place is in it, the vector has the row's length,
--- and the lent buffer has the record. Assumes nothing.
+-- What it means that quantize accepts coefficients: the table is good, the place is in it, the vector has the row's
+-- length, and the lent buffer has the record.
 use Prim.Native.Nat.{ℕ, _<_}
 use mathlib.Core.Path.{_≡_}
 use mathlib.Core.List.{List, [], _∷_}

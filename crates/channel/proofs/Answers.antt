@@ -1,4 +1,4 @@
--- Demand 2, of answers: what a place shows, its values, and the tally. Assumes nothing.
+-- Demand 2, of answers: what a place shows, its values, and the tally.
 use Prim.Native.Nat.{ℕ, zero, suc, _<_}
 use mathlib.Core.Path.{_≡_, refl}
 use mathlib.Core.List.{List, [], _∷_}

@@ -1,4 +1,4 @@
--- Demand 3 a, by the steps of a permutation: two neighbours exchanged are two arrivals in either order. Assumes nothing.
+-- Demand 3 a, by the steps of a permutation: two neighbours exchanged are two arrivals in either order.
 use Prim.Native.Nat.{ℕ}
 use mathlib.Core.Path.{_≡_, refl, ap, ap₂, _∙_}
 use mathlib.Core.List.{List, List·Permᴰ, List·Permᴰ·nil, List·Permᴰ·cons, List·Permᴰ·swap, List·Permᴰ·trans}

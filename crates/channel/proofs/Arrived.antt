@@ -1,5 +1,5 @@
--- A record that holds a place's row, a radius number of that row and the index of a point of that shell, and that is all that came for its place, is
--- sound with that point. Of the row's enumeration only its laws are used. Assumes nothing.
+-- A record that holds a place's row, a radius number of that row and the index of a point of that shell, and that
+-- is all that came for its place, is sound with that point. Of the row's enumeration only its laws are used.
 use Prim.Native.Nat.{ℕ, _<_}
 use mathlib.Core.Path.{_≡_, sym, ap, ap₂, _∙_}
 use mathlib.Core.List.{List}

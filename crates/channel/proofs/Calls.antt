@@ -1,4 +1,4 @@
--- Demand 1 of each call, by the one argument. Assumes nothing.
+-- Demand 1 of each call, by the one argument.
 use Prim.Native.Nat.{ℕ, _+_}
 use mathlib.Core.Path.{_≡_, refl, sym, _∙_}
 use mathlib.Core.List.{List, [], _∷_}

@@ -1,5 +1,5 @@
--- The conditions of each call give the number that its checks give: checks of one number that stand one behind the other are one condition. Assumes
--- nothing.
+-- The conditions of each call give the number that its checks give: checks of one number that stand one behind the
+-- other are one condition.
 use Prim.Native.Nat.{ℕ}
 use mathlib.Core.Path.{_≡_, refl, _∙_}
 use mathlib.Core.List.{List, [], _∷_, _++_, append-assoc}

@@ -1,4 +1,4 @@
--- Demands 2 and 3, whole; demand 1 is `demand-1` of proofs/Calls.antt. Assumes nothing.
+-- Demands 2 and 3, whole; demand 1 is `demand-1` of proofs/Calls.antt.
 use Rattle.channel.specs.Demand2.{Demand2}
 use Rattle.channel.specs.Demand3.{Demand3}
 use Rattle.channel.proofs.Answers.{answers, tallies}

@@ -1,5 +1,5 @@
--- Demand 3 b: a page grown from empty never gives 12. Where 12 is said no condition before it holds, so the table is good and the place in it, and
--- there no cell is at fault. Assumes nothing.
+-- Demand 3 b: a page grown from empty never gives 12. Where 12 is said no condition before it holds, so the table
+-- is good and the place in it, and there no cell is at fault.
 use Prim.Native.Nat.{ℕ}
 use mathlib.Core.Path.{_≡_, sym, _∙_}
 use mathlib.Core.List.{List}

@@ -1,5 +1,5 @@
--- Demand 2, of indices and points: the laws of the product enumeration, and that the calls index and point undo each other in every usable shell.
--- Assumes nothing.
+-- Demand 2, of indices and points: the laws of the product enumeration, and that the calls index and point undo
+-- each other in every usable shell.
 use Prim.Native.Nat.{ℕ, _<_}
 use mathlib.Core.Path.{_≡_, refl, ap, _∙_}
 use mathlib.Core.List.{List, [], _∷_}

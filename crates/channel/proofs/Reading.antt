@@ -1,5 +1,5 @@
--- What the readers make of a place that passes their checks: they answer as it is judged. A page grown from empty passes them at every place. Assumes
--- nothing.
+-- What the readers make of a place that passes their checks: they answer as it is judged. A page grown from empty
+-- passes them at every place.
 use Prim.Native.Nat.{ℕ, _<_}
 use mathlib.Core.Path.{_≡_, refl, ap, ap₂, _∙_}
 use mathlib.Core.List.{List, []}

@@ -1,4 +1,4 @@
--- Demand 2, of records: what quantize writes where it accepts. Assumes nothing.
+-- Demand 2, of records: what quantize writes where it accepts.
 use Prim.Native.Nat.{ℕ}
 use mathlib.Core.List.{List}
 use lib.Ieee.{Float, nan}

@@ -1,4 +1,5 @@
--- Demand 1 argued once for all calls: what a call says is the first check that fails, and what it leaves goes by the same checks. Assumes nothing.
+-- Demand 1 argued once for all calls: what a call says is the first check that fails, and what it leaves goes by
+-- the same checks.
 use Prim.Native.Nat.{ℕ, suc, _<_}
 use mathlib.Core.Path.{_≡_, refl, sym, ap, _∙_}
 use mathlib.Core.List.{List, [], _∷_, _++_, List·Memᴰ, List·Memᴰ·head, List·Memᴰ·tail}

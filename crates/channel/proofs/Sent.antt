@@ -1,5 +1,5 @@
--- Demand 3 c and d: the record that quantize wrote, and that record with some of its sign bits changed, are sound where nothing else came for their
--- place. Assumes nothing.
+-- Demand 3 c and d: the record that quantize wrote, and that record with some of its sign bits changed, are sound
+-- where nothing else came for their place.
 use Prim.Native.Nat.{ℕ, _/_, _^_, _<_}
 use mathlib.Core.Path.{_≡_, refl, sym, ap, _∙_, subst}
 use mathlib.Core.List.{List, List·Memᴰ}

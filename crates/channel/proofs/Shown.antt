@@ -1,4 +1,4 @@
--- Demand 3 e: what a place shows is what came for it, once or several times, and nothing else did. Assumes nothing.
+-- Demand 3 e: what a place shows is what came for it, once or several times, and nothing else did.
 use Prim.Native.Nat.{ℕ, _<_}
 use mathlib.Core.Path.{refl, ap}
 use mathlib.Core.List.{List, [], _∷_, _++_}
@@ -34,7 +34,8 @@ module _ (t : List ℕ) (xs : List (List ℕ)) (p : ℕ) where
   only-equal good h shows (inr (inr two)) =
       absurd (omega (arith, ap (λ (c : Cell). answerNumber (judge (rowFor t p) (rowOf t p) c)) (differ-cell t good xs p h two)))
 
-  -- either reader looks at the place first; where it shows a point all its checks pass, and sound and mended are the first two answers
+  -- either reader looks at the place first; where it shows a point all its checks pass, and sound and mended are
+  -- the first two answers
   by-reader : (rest : List Check) → Numbered rest → ShowsPoint (firstOf (lookChecks t (grown t xs) p ++ rest) (told (judgeAt t (grown t xs) p)))
       → OnlySent t xs p
   by-reader rest numbered shows =

@@ -1,4 +1,5 @@
--- Demand 3 b: what came for a place is one of three cases, and from an empty page on each has its cell and its answer. Assumes nothing.
+-- Demand 3 b: what came for a place is one of three cases, and from an empty page on each has its cell and its
+-- answer.
 use Prim.Native.Nat.{ℕ, _<_}
 use mathlib.Core.Path.{_≡_, refl, sym, ap, _∙_}
 use mathlib.Core.List.{List, [], _∷_, List·Memᴰ, List·Memᴰ·head, List·Memᴰ·tail, List·Memᴰ·cases-cons, List·Memᴰ·not-nil}

@@ -1,4 +1,4 @@
--- A value is exact: a coordinate of what a place shows, of magnitude at most 32, times a step, over 256. Assumes nothing.
+-- A value is exact: a coordinate of what a place shows, of magnitude at most 32, times a step, over 256.
 use Prim.Native.Nat.{ℕ, _+_, _*_, _<_}
 use mathlib.Core.Path.{_≡_, _∙_}
 use mathlib.Core.List.{List}

@@ -1,4 +1,4 @@
--- The whole case, computed; and the theorems applied to it. Assumes nothing.
+-- The whole case, computed; and the theorems applied to it.
 use Prim.Native.Nat.{ℕ, zero, suc, _<_}
 use mathlib.Core.Path.{_≡_, refl, sym, ap, _∙_}
 use mathlib.Core.List.{List, [], _∷_, List·Memᴰ·head, List·Memᴰ·tail, List·Memᴰ·cases-cons, List·Memᴰ·not-nil}

@@ -1,6 +1,7 @@
--- Demand 1, every call on every input: a refusal returns its number and changes nothing; a number is given exactly when its condition holds and no
--- condition before it in the call's order does; any two results that a contract allows are equal. A call is named here by what its contract cites:
--- what it says, and what it leaves in the buffer that is lent to it. Collect refuses nothing; its contract is two equations. Assumes nothing.
+-- Demand 1, every call on every input: a refusal returns its number and changes nothing; a number is given exactly
+-- when its condition holds and no condition before it in the call's order does; any two results that a contract
+-- allows are equal. A call is named here by what its contract cites: what it says, and what it leaves in the buffer
+-- that is lent to it. Collect refuses nothing; its contract is two equations.
 use Prim.Native.Nat.{ℕ, suc}
 use mathlib.Core.Path.{_≡_}
 use mathlib.Core.List.{List, [], _∷_, map, List·Memᴰ}
@@ -34,8 +35,8 @@ condition n cs = record { number = n; values = []; fails = anyOf (failsOf cs) }
 abbrev pub numbersOf : List Check → List ℕ
 numbersOf cs = map (λ (c : Check). c .number) cs
 
--- the conditions of a call whose checks begin with those of its table, 7, and what each call checks after them: 4 is given for any buffer of a wrong
--- length, 11 for any coefficient, and 12 for any cell
+-- the conditions of a call whose checks begin with those of its table, 7, and what each call checks after them: 4
+-- is given for any buffer of a wrong length, 11 for any coefficient, and 12 for any cell
 abbrev pub withTable : List ℕ → List Check → List Check
 withTable t conditions = condition 7 (tableChecks t) ∷ conditions
 
@@ -73,8 +74,8 @@ linesConditions t pg p b =
     ∷ condition 12 (eachFrom (cellCheckAt pg) p (linesFit t p b))
     ∷ []
 
--- A call's refusals: `order` is what document 01 prints under "Order of checks", `conditions` says when each number is given, `checks` what is named
--- with it, and `says` is what the contract says that the call says.
+-- A call's refusals: `order` is the call's line in docs/RULES.md, "Order of checks", `conditions` says when each
+-- number is given, `checks` what is named with it, and `says` is what the contract says that the call says.
 pub record Refusing (order : List ℕ) (conditions checks : List Check) (says : List ℕ) : Type 0 where
   pub in-order : numbersOf conditions ≡ order
   -- number n is given exactly when n's condition holds and no condition before it does
@@ -135,7 +136,7 @@ pub record Demand1 : Type 0 where
   -- Tally: 7, 4, 12
   pub tally : (t pg : List ℕ) → Refusing (7 ∷ 4 ∷ 12 ∷ []) (withTable t (tallyConditions t pg)) (tallyChecks t pg) (tallySays t pg)
   pub tally-determined : (t pg : List ℕ) → Determined tallyMeaning (tallySays t pg)
-  -- The calls of the listing, which document 01 does not number: lines as reading a place, 7, 8, 4, 12; one line of a known text, 4
+  -- The calls of the listing: lines as reading a place, 7, 8, 4, 12; one line of a known text, 4
   pub lines : (t pg : List ℕ) (p : ℕ) (held : List ℕ)
       → Refusing (7 ∷ 8 ∷ 4 ∷ 12 ∷ []) (withTable t (linesConditions t pg p (length held))) (linesChecks t pg p (length held)) (linesSays t pg p held)
   pub lines-unchanged : (t pg : List ℕ) (p : ℕ) (held : List ℕ) → Unchanged (linesSays t pg p held) (linesLeaves t pg p held) held

@@ -1,5 +1,5 @@
--- Demand 2, indices, records and answers. What is said of indices is said of the product enumeration, by which both workshops number the points;
--- what is said of a page, of the enumeration of each place's row. Assumes nothing.
+-- Demand 2, indices, records and answers. What is said of indices is said of the product enumeration, by which both
+-- workshops number the points; what is said of a page, of the enumeration of each place's row.
 use Prim.Native.Nat.{ℕ, suc, _*_, _^_, _≤_, _<_, _∣_}
 use mathlib.Core.Path.{_≡_}
 use mathlib.Core.List.{List, [], _∷_, _++_}
@@ -43,7 +43,8 @@ pub record NumbersPoints (l k : ℕ) : Type 0 where
 abbrev pub CountsSum : Type 0
 CountsSum = (l k : ℕ) → N l (suc k) ≡ sumAfter (λ s. R s l (suc k)) 0 (mostNonzero l (suc k))
 
--- bit j of an index is that of the nonzero coordinate which has exactly j nonzero coordinates after it, 1 for negative
+-- bit j of an index is that of the nonzero coordinate which has exactly j nonzero coordinates after it, 1 for
+-- negative
 abbrev pub BitOfCoordinate : Type 0
 BitOfCoordinate = (before : List ℤ) (c : ℤ) (after : List ℤ) → isNonzero c ≡ true
     → eqb (bit (nonzerosIn after) (productIndex (before ++ c ∷ after))) 1 ≡ isNegative c
@@ -70,7 +71,8 @@ pub record Quantizes (t : List ℕ) (p : ℕ) (w : List Float) (r : List ℕ) : 
       → radiusFor (rowFor t p) w ≤ radiusAt (rowFor t p) n
   -- the point's magnitudes sum to it
   pub on-shell : OnShell (lengthFor t p) (radiusFor (rowFor t p) w) (pointFor (rowFor t p) w)
-  -- they are the whole parts, with one more for each of the largest remainders, and a coordinate is 0 or has its coefficient's sign; no other point is so
+  -- they are the whole parts, with one more for each of the largest remainders, and a coordinate is 0 or has its
+  -- coefficient's sign; no other point is so
   pub point : IsPointOf (radiusFor (rowFor t p) w) w (pointFor (rowFor t p) w)
   pub only-point : (q : List ℤ) → IsPointOf (radiusFor (rowFor t p) w) w q → q ≡ pointFor (rowFor t p) w
   -- a coordinate is 0 where the coefficient's whole number is

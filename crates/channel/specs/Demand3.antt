@@ -1,6 +1,7 @@
--- Demand 3, what the channel does: it loses, repeats, reorders and changes what it carries. t is a table, xs what arrives, byte strings of any length
--- and content in the order of arrival, those among them that are refused; p is a place. Stated over the page rules, to which the contracts of take
--- and collect tie the code, and over what the contracts of read and coefficient say. Assumes nothing.
+-- Demand 3, what the channel does: it loses, repeats, reorders and changes what it carries. t is a table, xs what
+-- arrives, byte strings of any length and content in the order of arrival, those among them that are refused; p is
+-- a place. Stated over the page rules, to which the contracts of take and collect tie the code, and over what the
+-- contracts of read and coefficient say.
 use Prim.Native.Nat.{ℕ, _/_, _^_, _<_}
 use mathlib.Core.Path.{_≡_}
 use mathlib.Core.List.{List, [], _∷_, _++_, List·Memᴰ, List·Permᴰ}
@@ -46,8 +47,8 @@ pub record TwoDiffer (t : List ℕ) (xs : List (List ℕ)) (p : ℕ) : Type 0 wh
 abbrev pub WhatCame : List ℕ → List (List ℕ) → ℕ → Type 0
 WhatCame t xs p = Nobody t xs p ⊎ (((y : List ℕ) × OnlyCame t xs p y) ⊎ TwoDiffer t xs p)
 
--- ---- what is read of a place
--- an answer by its number and reason, a point or zeros, and what each coefficient carries, with a buffer of the right length and every coordinate
+-- ---- what is read of a place an answer by its number and reason, a point or zeros, and what each coefficient
+-- carries, with a buffer of the right length and every coordinate
 pub record Reads (t pg : List ℕ) (p answer reason : ℕ) (q : List ℤ) (carries : ℕ → List Float) : Type 0 where
   pub read-says : (out : List ℤ) → length out ≡ lengthFor t p → readSays t pg p out ≡ 0 ∷ answer ∷ reason ∷ []
   pub read-leaves : (out : List ℤ) → length out ≡ lengthFor t p → readLeaves t pg p out ≡ q
@@ -75,13 +76,14 @@ Blank t pg p answer = Reads t pg p answer 0 (replicate (lengthFor t p) (pos 0)) 
 abbrev pub ShowsPoint : List ℕ → Type 0
 ShowsPoint says = (says ≡ 0 ∷ 0 ∷ 0 ∷ []) ⊎ (says ≡ 0 ∷ 1 ∷ 0 ∷ [])
 
--- ---- a. "Nothing may depend on the order of arrival": on every table and every page, of any bytes and any length, with whatever was refused before,
--- two lists of arrivals that are permutations of each other leave the same page, byte for byte, and the same number of refused takes.
+-- ---- a. "The page does not depend on the order of arrival": on every table and every page, of any bytes and any
+-- length, with whatever was refused before, two lists of arrivals that are permutations of each other leave the
+-- same page, byte for byte, and the same number of refused takes.
 abbrev pub AnyOrder : Type 0
 AnyOrder = (t : List ℕ) (s : Received) (xs ys : List (List ℕ)) → List·Permᴰ xs ys → after t s xs ≡ after t s ys
 
--- ---- b. The cell of a place, from an empty page on, is told by what claims it: empty, its 8 bytes zero, held with the 8 bytes, or contested, its
--- 8 bytes zero; and "a damaged place is told as damaged".
+-- ---- b. The cell of a place, from an empty page on, is told by what claims it: empty, its 8 bytes zero, held with
+-- the 8 bytes, or contested, its 8 bytes zero; so a damaged place is told as damaged.
 pub record CellTold (t : List ℕ) (xs : List (List ℕ)) (p : ℕ) : Type 0 where
   pub what-came : WhatCame t xs p
   pub nobody : Nobody t xs p → cellAt (grown t xs) p ≡ record { state = 0; bytes = replicate 8 0 }
@@ -98,20 +100,23 @@ pub record Never12 (t : List ℕ) (xs : List (List ℕ)) : Type 0 where
   pub coefficient : (p i : ℕ) → numberSaid (coefficientSays t (grown t xs) p i) ≡ 12 → ⊥
   pub tally : numberSaid (tallySays t (grown t xs)) ≡ 12 → ⊥
 
--- ---- c and d. What is sent for place p: coefficients w that quantize accepts, the record that it leaves, and its point.
+-- ---- c and d. What is sent for place p: coefficients w that quantize accepts, the record that it leaves, and its
+-- point.
 pub record Sent (t : List ℕ) (p : ℕ) (w : List Float) (r : List ℕ) (q : List ℤ) : Type 0 where
   pub lent : List ℕ
   pub accepted : quantizeSays t p w lent ≡ 0 ∷ []
   pub written : quantizeLeaves t p w lent ≡ r
   pub point : pointFor (rowFor t p) w ≡ q
 
--- c. "What is shown is what was sent": the record arrives, and all that claim its place are equal to it; then the place is sound with its point.
+-- c. "the place is sound with the point that was sent": the record arrives, and all that claim its place are equal
+-- to it; then the place is sound with its point.
 abbrev pub ShownAsSent : Type 0
 ShownAsSent = (t : List ℕ) (p : ℕ) (w : List Float) (r : List ℕ) (q : List ℤ) → Sent t p w r q → (xs : List (List ℕ)) → List·Memᴰ r xs
     → AllEqual t xs p r → SoundWith t (grown t xs) p q
 
--- d. The record with a codeword that differs only in the low s bits, s being the number of nonzero coordinates of q, in any set of them: arrived in
--- the same way, it is sound with q with exactly the coordinates of the differing bits negated.
+-- d. The record with a codeword that differs only in the low s bits, s being the number of nonzero coordinates of
+-- q, in any set of them: arrived in the same way, it is sound with q with exactly the coordinates of the differing
+-- bits negated.
 abbrev pub withCodeword : List ℕ → ℕ → List ℕ
 withCodeword r codeword = take 4 r ++ highFirst 4 codeword
 
@@ -120,8 +125,9 @@ OnlySignsChange = (t : List ℕ) (p : ℕ) (w : List Float) (r : List ℕ) (q : 
     → (codeword : ℕ) → productIndex q / 2 ^ nonzerosIn q ≡ codeword / 2 ^ nonzerosIn q → (xs : List (List ℕ)) → List·Memᴰ (withCodeword r codeword) xs
     → AllEqual t xs p (withCodeword r codeword) → SoundWith t (grown t xs) p (flipped (productIndex q) codeword q)
 
--- ---- e. Conversely, by either reader: a place shows a point only if something claimed it and all that claimed it were equal; and it is the point of
--- that record. So a reading never stands over its neighbour's character because of what came for the neighbour.
+-- ---- e. Conversely, by either reader: a place shows a point only if something claimed it and all that claimed it
+-- were equal; and it is the point of that record. So a reading never stands over its neighbour's character because
+-- of what came for the neighbour.
 pub record OnlySent (t : List ℕ) (xs : List (List ℕ)) (p : ℕ) : Type 0 where
   pub arrived : List ℕ
   pub all-equal : OnlyCame t xs p arrived
@@ -134,8 +140,9 @@ ReadOnlySent = (t : List ℕ) (xs : List (List ℕ)) (p : ℕ) (out : List ℤ) 
 abbrev pub ValuedOnlySent : Type 0
 ValuedOnlySent = (t : List ℕ) (xs : List (List ℕ)) (p i : ℕ) → ShowsPoint (coefficientSays t (grown t xs) p i) → OnlySent t xs p
 
--- ---- The demand as the order words it: one good table, an empty page, a written record for every place, and any list of arrivals.
--- What is sent for a page: for each place p the coefficients w p, which quantize accepts, the record r p that it leaves, and its point q p.
+-- ---- The demand as the order words it: one good table, an empty page, a written record for every place, and any
+-- list of arrivals. What is sent for a page: for each place p the coefficients w p, which quantize accepts, the
+-- record r p that it leaves, and its point q p.
 abbrev pub PageSent : List ℕ → (ℕ → List Float) → (ℕ → List ℕ) → (ℕ → List ℤ) → Type 0
 PageSent t w r q = (p : ℕ) → p < placesIn t → Sent t p (w p) (r p) (q p)
 
@@ -145,7 +152,8 @@ pub record PageShown (t : List ℕ) (r : ℕ → List ℕ) (q : ℕ → List ℤ
   -- every place whose own record came unchanged, and that no differing record claims, gives the sent point
   pub unchanged : (p : ℕ) → p < placesIn t → List·Memᴰ (r p) xs → ((x : List ℕ) → List·Memᴰ x xs → claims t x p ≡ true → x ≡ r p)
       → SoundWith t (grown t xs) p (q p)
-  -- every place whose record came in one form only, changed only in sign bits, gives the point with exactly those coordinates negated
+  -- every place whose record came in one form only, changed only in sign bits, gives the point with exactly those
+  -- coordinates negated
   pub signs-changed : (p : ℕ) → p < placesIn t → (codeword : ℕ) → productIndex (q p) / 2 ^ nonzerosIn (q p) ≡ codeword / 2 ^ nonzerosIn (q p)
       → List·Memᴰ (withCodeword (r p) codeword) xs → ((x : List ℕ) → List·Memᴰ x xs → claims t x p ≡ true → x ≡ withCodeword (r p) codeword)
       → SoundWith t (grown t xs) p (flipped (productIndex (q p)) codeword (q p))

@@ -1,6 +1,7 @@
--- Demand 3 on document 01's whole case, so that nobody can call it empty. For c and d the vector (1.5, 0, -0.75) is sent for place 0, and what arrives
--- is the record of place 1, a record cut short, the record sent, a record of no place, and the record sent once more. Every premise of the two
--- theorems holds there, and what the readers answer is computed. Assumes nothing.
+-- Demand 3 on the whole case (docs/RULES.md, "Worked cases"), so that nobody can call it empty. For c and d the
+-- vector (1.5, 0, -0.75) is sent for place 0, and what arrives is the record of place 1, a record cut short, the
+-- record sent, a record of no place, and the record sent once more. Every premise of the two theorems holds there,
+-- and what the readers answer is computed.
 use Prim.Native.Nat.{ℕ, _/_, _^_, _<_}
 use mathlib.Core.Path.{_≡_}
 use mathlib.Core.List.{List, [], _∷_, map, List·Memᴰ}
@@ -36,7 +37,8 @@ pub record Read (r : List ℕ) (q : List ℤ) : Type 0 where
   pub leaves : readLeaves wholeCase (grown wholeCase (arrivals r)) 0 zeros ≡ q
 
 pub record Witness : Type 0 where
-  -- c: the record that document 01 prints is the one that quantize leaves, and (1, 0, -1) is read, the last coefficient as -1.0
+  -- c: the record of the whole case is the one that quantize leaves, and (1, 0, -1) is read, the last coefficient
+  -- as -1.0
   pub is-sent : Sent wholeCase 0 vector first sent
   pub is-read : Read first sent
   pub its-value : map (toBits binary32) (coefficientCarries wholeCase (grown wholeCase (arrivals first)) 0 2) ≡ 3212836864 ∷ []

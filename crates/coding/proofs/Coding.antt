@@ -1,4 +1,4 @@
--- What the code asks for and gives when it codes a vector at a radius above 0, and what it gives at radius 0. Assumes nothing.
+-- What the code asks for and gives when it codes a vector at a radius above 0, and what it gives at radius 0.
 use Prim.Native.Nat.{ℕ, _^_, _<_}
 use mathlib.Core.Path.{_≡_, refl, sym, ap, _∙_}
 use mathlib.Core.List.{List}

@@ -1,4 +1,4 @@
--- What is asked of a vector that is coded. Assumes nothing.
+-- What is asked of a vector that is coded.
 use Prim.Native.Nat.{ℕ, _<_}
 use mathlib.Core.Path.{_≡_}
 use mathlib.Core.List.{List}
@@ -18,8 +18,8 @@ pub record Accepted (row : List ℕ) (xs : List Float) (held : List ℕ) : Type 
   pub all-usable : AllUsable xs
   pub has-room : length held ≡ recordLength
 
--- a vector can be coded in a usable shell of its length and of a radius above 0, the one that m numbers, if not all of it becomes 0; `magnitudes` are its
--- own
+-- a vector can be coded in a usable shell of its length and of a radius above 0, the one that m numbers, if not all
+-- of it becomes 0; `magnitudes` are its own
 pub record Codable (m : Numbering) (total : ℕ) (xs : List Float) (magnitudes : List ℕ) : Type 0 where
   pub shell-usable : Usable m
   pub above-0 : 0 < m .radius .0

@@ -1,4 +1,5 @@
--- What the coefficients xs become in a row of the table (document 01, "Quantizing into a record"). `row` is the bytes of the row. Assumes nothing.
+-- What the coefficients xs become in a row of the table (docs/RULES.md, "Quantizing into a record"). `row` is the
+-- bytes of the row.
 use Prim.Native.Nat.{ℕ}
 use mathlib.Core.List.{List}
 use lib.Ieee.{Float}

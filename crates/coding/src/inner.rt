@@ -1,4 +1,5 @@
-// The radius number and the codeword of a vector, and the bytes of its record. Each function says what it asks of its caller.
+// The radius number and the codeword of a vector, and the bytes of its record. Each function says what it asks of
+// its caller.
 use coefficients::inner::coefficients::write_magnitudes;
 use coefficients::inner::coefficients::write_signed;
 use coefficients::inner::radius::choose;
@@ -34,8 +35,8 @@ fn measure(coefficients: &[f32], magnitudes: &mut [u32]) -> u32
     sum(magnitudes)
 }
 
-// The codeword of a radius above 0. `magnitudes` holds those of the coefficients, and after share() those of the point; it and the two after it are
-// room to work in.
+// The codeword of a radius above 0. `magnitudes` holds those of the coefficients, and after share() those of the
+// point; it and the two after it are room to work in.
 fn codeword(
     numbering: Numbering,
     total: u32,
@@ -53,7 +54,8 @@ fn codeword(
     index(numbering, point)
 }
 
-// The radius number and the codeword; the last three are room to work in. At radius 0 the point is zero, and its index 0.
+// The radius number and the codeword; the last three are room to work in. At radius 0 the point is zero, and its
+// index 0.
 fn code(
     row: &[u8],
     coefficients: &[f32],

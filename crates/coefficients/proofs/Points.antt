@@ -1,6 +1,6 @@
--- The point of a vector: it is on the shell of its radius, its magnitudes are shared out by largest remainders, a coordinate is 0 or has its
--- coefficient's sign, and a coefficient that becomes 0 gives 0; no other point is so. A radius above 0 asks that not all coefficients become 0. Assumes
--- nothing.
+-- The point of a vector: it is on the shell of its radius, its magnitudes are shared out by largest remainders, a
+-- coordinate is 0 or has its coefficient's sign, and a coefficient that becomes 0 gives 0; no other point is so. A
+-- radius above 0 asks that not all coefficients become 0.
 use Prim.Native.Nat.{ℕ, zero, suc, _<_}
 use mathlib.Core.Path.{_≡_, refl, sym, ap, _∙_}
 use mathlib.Core.List.{List, [], _∷_, map}

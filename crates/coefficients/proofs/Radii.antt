@@ -1,5 +1,5 @@
--- The chosen radius misses the sum of magnitudes by the least; of two that miss it by the same, the smaller is chosen; and one above 0 is chosen
--- only where the sum is above 0. Assumes nothing.
+-- The chosen radius misses the sum of magnitudes by the least; of two that miss it by the same, the smaller is
+-- chosen; and one above 0 is chosen only where the sum is above 0.
 use Prim.Native.Nat.{ℕ, zero, suc, _-_, _*_, _≤_, _<_}
 use mathlib.Core.Path.{_≡_, ap, _∙_}
 use mathlib.Core.List.{List}

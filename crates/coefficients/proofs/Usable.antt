@@ -1,4 +1,4 @@
--- The checks of the coefficients have a number above 0, and pass only where every coefficient is usable. Assumes nothing.
+-- The checks of the coefficients have a number above 0, and pass only where every coefficient is usable.
 use mathlib.Core.List.{List, [], _∷_}
 use mathlib.Core.Path.{_≡_, sym}
 use native.Mathlib.Omega.{arith}

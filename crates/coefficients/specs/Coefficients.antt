@@ -1,5 +1,5 @@
--- Which coefficients are refused (document 01, "Quantizing into a record" and "Refusal numbers"). xs are the coefficients, any of them. Assumes
--- nothing.
+-- Which coefficients are refused (docs/RULES.md, "Quantizing into a record" and "Refusal numbers"). xs are the
+-- coefficients, any of them.
 use Prim.Native.Nat.{ℕ, _<_}
 use mathlib.Core.Path.{_≡_}
 use mathlib.Core.List.{List, [], _∷_}

@@ -1,4 +1,4 @@
--- The vector of document 01, "Proofs of single values": (1.5, 0, -0.75). Assumes nothing.
+-- The vector of docs/RULES.md, "Worked cases": (1.5, 0, -0.75).
 use mathlib.Core.List.{List, [], _∷_}
 use mathlib.Core.Bool.{true, false}
 use lib.Ieee.{Float, fin}

@@ -1,5 +1,5 @@
--- The point of a vector (document 01, "Quantizing into a record"): the radius k shared out among the magnitudes of the coefficients, with the signs
--- of the coefficients. Assumes nothing.
+-- The point of a vector (docs/RULES.md, "Quantizing into a record"): the radius k shared out among the magnitudes
+-- of the coefficients, with the signs of the coefficients.
 use Prim.Native.Nat.{ℕ, _<_}
 use mathlib.Core.Path.{_≡_}
 use mathlib.Core.List.{List, [], _∷_, map}
@@ -30,8 +30,9 @@ signedBy (x ∷ xs) (i ∷ ms) = signed (negative x) i ∷ signedBy xs ms
 abbrev pub pointOf : ℕ → List Float → List ℤ
 pointOf k xs = signedBy xs (shared k (magnitudesOf xs))
 
--- what makes q the point of the coefficients xs at radius k: its magnitudes are shared out by largest remainders, and a coordinate is 0 or has its
--- coefficient's sign. proofs/Points.antt shows that `pointOf` is such a point, and that there is no other.
+-- what makes q the point of the coefficients xs at radius k: its magnitudes are shared out by largest remainders,
+-- and a coordinate is 0 or has its coefficient's sign. proofs/Points.antt shows that `pointOf` is such a point, and
+-- that there is no other.
 pub record IsPointOf (k : ℕ) (xs : List Float) (q : List ℤ) : Type 0 where
   pub magnitudes : IsShared k (magnitudesOf xs) (map natAbs q)
   pub signs : (i : ℕ) → i < length xs → (getD q i (pos 0) ≡ pos 0) ⊎ (isNegative (getD q i (pos 0)) ≡ negative (getD xs i nan))

@@ -1,2 +1,3 @@
-// A vector of coefficients (document 01, "Quantizing into a record"): their check, their whole numbers, their signs, and the choice of the radius.
+// A vector of coefficients (docs/RULES.md, "Quantizing into a record"): their check, their whole numbers, their
+// signs, and the choice of the radius.
 pub mod inner;

@@ -1,5 +1,5 @@
--- A coordinate of the code, an i32, as a whole number: what widening, negating and casting make of it. A value z fits 32 bits with a sign, so
--- its magnitude is at most 2^31, the lowest value's. Assumes nothing.
+-- A coordinate of the code, an i32, as a whole number: what widening, negating and casting make of it. A value z
+-- fits 32 bits with a sign, so its magnitude is at most 2^31, the lowest value's.
 use Prim.Native.Nat.{ℕ, zero, suc, _^_, _≤_}
 use mathlib.Core.Path.{_≡_, sym}
 use mathlib.Core.Bool.{true, false, false≢true}

@@ -1,4 +1,4 @@
--- N grows with the radius, at every length from 1 on: the shells within a limit are those up to a largest radius. Assumes nothing.
+-- N grows with the radius, at every length from 1 on: the shells within a limit are those up to a largest radius.
 use Prim.Native.Nat.{ℕ, suc, _≤_}
 use native.Mathlib.Omega.{arith}
 use native.Mathlib.Decide.{le-ind}

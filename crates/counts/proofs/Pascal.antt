@@ -2,8 +2,8 @@
 --     D-zero, D-addition, D-small     D(0,l) = 1; binomial addition (eq. 17); 0 where s exceeds l
 --     S-none, S-addition, S-small     S(0,k) for k above 0; the same addition for shapes; 0 where s exceeds k
 --     B-zero, B-next                  one sign of no coordinates; twice as many with one coordinate more
---     binomial-bound, D-bound, S-bound     binomial(n,r) is at most 2^n, so D(s,l) is at most 2^l and S(s,k) at most 2^(k-1)
--- Assumes nothing.
+--     binomial-bound, D-bound, S-bound     binomial(n,r) is at most 2^n, so D(s,l) is at most 2^l and S(s,k) at most
+--                                          2^(k-1)
 use Prim.Native.Nat.{ℕ, zero, suc, _+_, _^_, _≤_, _<_}
 use mathlib.Core.Path.{_≡_, refl}
 use native.Mathlib.Nat.{pow-suc}

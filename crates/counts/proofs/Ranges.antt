@@ -1,9 +1,10 @@
 -- The ranges of the product index, from s = m downward (eq. 26), for all lengths and radii:
 --     range-next, range-last     the start for s is the start for s+1 and that range's size; from m on it is 0
 --     range-down                 the same from s to s-1, as a descending loop goes
---     range-multiple             O(s) is a multiple of 2^(s+1): below a range's start the signs' s bits, and one more, are 0
+--     range-multiple             O(s) is a multiple of 2^(s+1): below a range's start the signs' s bits, and one
+--                                more, are 0
 --     start-bound, end-bound     a range ends within N
--- All but the bounds hold whatever shape field the ranges have. Assumes nothing.
+-- All but the bounds hold whatever shape field the ranges have.
 use Prim.Native.Nat.{ℕ, zero, suc, _+_, _-_, _*_, _^_, _≤_, _<_, _∣_}
 use mathlib.Core.Path.{_≡_, sym, ap, _∙_}
 use native.Mathlib.Omega.{arith}

@@ -1,5 +1,5 @@
--- The rows of the triangle are the binomials: what is stored at n x w + r is binomial(n,r), and the recurrence goes w numbers back.
--- Assumes nothing.
+-- The rows of the triangle are the binomials: what is stored at n x w + r is binomial(n,r), and the recurrence goes
+-- w numbers back.
 use Prim.Native.Nat.{ℕ, zero, suc, _+_, _-_, _*_, _/_, _%_, _^_, _≤_, _<_}
 use mathlib.Core.Path.{_≡_, refl, sym, ap, ap₂, _∙_}
 use mathlib.Core.List.{List, [], _∷_}

@@ -3,7 +3,6 @@
 --     sum-first, sum-shift    the lowest term taken off; the same terms counted one lower
 --     sum-none, sum-cut       terms that are 0 add nothing
 --     sum-multiple            a common divisor of the terms
--- Assumes nothing.
 use Prim.Native.Nat.{ℕ, zero, suc, _+_, _<_, _∣_}
 use mathlib.Core.Path.{_≡_, refl, ap, ap₂}
 use native.Mathlib.Nat.{add-zero, add-suc, suc-add, dvd-zero, dvd-add}

@@ -1,5 +1,5 @@
--- Upper summation of shape counts (eq. 20 and 21), for all numbers. With n of the values of the first magnitude passed, what is left is
--- the shape count at a radius lower by n. Assumes nothing.
+-- Upper summation of shape counts (eq. 20 and 21), for all numbers. With n of the values of the first magnitude
+-- passed, what is left is the shape count at a radius lower by n.
 use Prim.Native.Nat.{ℕ, zero, suc, _+_, _-_, _≤_, _<_}
 use mathlib.Core.Path.{_≡_, sym, ap, _∙_}
 use native.Mathlib.Omega.{arith}

@@ -1,7 +1,7 @@
--- N by the recurrence (eq. 10) is the sum of R over s (eq. 14 and 25), for all lengths and radii. At radius 0 the term for s = 0 is the one
--- point; above it that term is 0 and the sum runs from 1, as document 01 has it.
--- The way: `spread l f` is the sum of binomial(l,s) x f(s), written by binomial addition alone; N is `spread` of S x 2^s by one induction,
--- and `spread` is the sum by another. Assumes nothing.
+-- N by the recurrence (eq. 10) is the sum of R over s (eq. 14 and 25), for all lengths and radii. At radius 0 the
+-- term for s = 0 is the one point; above it that term is 0 and the sum runs from 1, as the rules have it. The way:
+-- `spread l f` is the sum of binomial(l,s) x f(s), written by binomial addition alone; N is `spread` of S x 2^s by
+-- one induction, and `spread` is the sum by another.
 use Prim.Native.Nat.{ℕ, zero, suc, _+_, _-_, _*_, _≤_, _<_}
 use mathlib.Core.Path.{_≡_, refl, sym, ap, ap₂, _∙_}
 use native.Mathlib.Omega.{arith}
@@ -117,7 +117,8 @@ volume l k =
     let start : sumAfter (λ s. R s l k) 0 (m - 0) ≡ sumAfter (λ s. R s l k) 0 m = ap (sumAfter (λ s. R s l k) 0) (sub-zero m) in
     N-total l k ∙ ap (λ (x : ℕ). R 0 l k + x) ((rw whole at cut) ∙ sym start)
 
--- eq. 14 and 25, as printed: at a radius above 0 the sum runs over s from 1 to m, and is what starts the range for s = 0
+-- eq. 14 and 25, as printed: at a radius above 0 the sum runs over s from 1 to m, and is what starts the range for
+-- s = 0
 pub volume-start : (l k : ℕ) → N l (suc k) ≡ O 0 l (suc k)
 unfolding rangeSize
 volume-start l k =

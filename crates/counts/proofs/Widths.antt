@@ -1,5 +1,5 @@
--- The width of a total is the least number of bits that is enough (existence), and only one number is (uniqueness). For a total above 1,
--- 2^(b-1) is below it and it is at most 2^b. Assumes nothing.
+-- The width of a total is the least number of bits that is enough (existence), and only one number is (uniqueness).
+-- For a total above 1, 2^(b-1) is below it and it is at most 2^b.
 use Prim.Native.Nat.{ℕ, zero, suc, _+_, _-_, _^_, _≤_, _<_}
 use mathlib.Core.Path.{_≡_, refl}
 use mathlib.Core.Bool.{Bool, true, false}
@@ -11,7 +11,7 @@ use lib.Pow.{pow-pos, pow-mono}
 use borrow.Author.Tests.{leb-true, leb-false}
 use Rattle.counts.specs.Width.{width, bitsFrom, IsWidth}
 
--- for a total of 1 it is 0, as document 01 says by itself
+-- for a total of 1 it is 0, as the rules say by themselves
 pub width-of-1 : width 1 ≡ 0
 unfolding width bitsFrom
 width-of-1 = refl

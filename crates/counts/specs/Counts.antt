@@ -1,6 +1,6 @@
--- The counts of points: document 01, "Points and counts" and "The product index"; source document 002, equations 10 and 14 to 26.
--- l is the length, k the radius, s the number of nonzero coordinates and m the smaller of l and k. Every count is defined for all whole
--- numbers, beyond lengths 1 to 16 and radii 0 to 32 too. Assumes nothing.
+-- The counts of points: docs/RULES.md, "Points and counts" and "The product index"; the paper, equations 10 and 14
+-- to 26. l is the length, k the radius, s the number of nonzero coordinates and m the smaller of l and k. Every
+-- count is defined for all whole numbers, beyond lengths 1 to 16 and radii 0 to 32 too.
 use Prim.Native.Nat.{ℕ, zero, suc, _+_, _-_, _*_, _^_, min}
 
 -- N(l,k), the points of length l and radius k (eq. 10)
@@ -19,8 +19,8 @@ binomial (suc n) (suc r) = binomial n (suc r) + binomial n r
 unfoldable pub D : ℕ → ℕ → ℕ
 D s l = binomial l s
 
--- the shape count S(s,k) = binomial(k-1,s-1) (eq. 19): in how many ways s positive whole numbers sum to k. The print has no S at 0; no
--- numbers at all sum to 0, in one way, and to nothing else.
+-- the shape count S(s,k) = binomial(k-1,s-1) (eq. 19): in how many ways s positive whole numbers sum to k. The
+-- print has no S at 0; no numbers at all sum to 0, in one way, and to nothing else.
 unfoldable pub S : ℕ → ℕ → ℕ
 S zero zero = 1
 S zero (suc k) = 0
@@ -40,8 +40,9 @@ unfoldable pub sumAfter : (ℕ → ℕ) → ℕ → ℕ → ℕ
 sumAfter f s zero = 0
 sumAfter f s (suc n) = f (suc (s + n)) + sumAfter f s n
 
--- A range holds the points with s nonzero coordinates. Where each of its shapes has one of F(s,k) numbers it has D x F x 2^s, and it starts
--- at the sum of the sizes for s+1 to m (eq. 26). The product index gives each shape its own number: F is S.
+-- A range holds the points with s nonzero coordinates. Where each of its shapes has one of F(s,k) numbers it has D
+-- x F x 2^s, and it starts at the sum of the sizes for s+1 to m (eq. 26). The product index gives each shape its
+-- own number: F is S.
 unfoldable pub rangeSize : (ℕ → ℕ → ℕ) → ℕ → ℕ → ℕ → ℕ
 rangeSize F s l k = D s l * F s k * B s
 

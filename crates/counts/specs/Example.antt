@@ -1,4 +1,5 @@
--- Small counts, written out: the triangle, the ranges of length 3 and radius 4, and widths. proofs/Example.antt computes every line. Assumes nothing.
+-- Small counts, written out: the triangle, the ranges of length 3 and radius 4, and widths. proofs/Example.antt
+-- computes every line.
 use mathlib.Core.Path.{_≡_}
 use Rattle.counts.specs.Counts.{N, binomial, D, S, B, R, O}
 use Rattle.counts.specs.Width.{width}
@@ -11,7 +12,8 @@ pub record Example : Type 0 where
   pub points-2-3 : N 2 3 ≡ 12
   pub points-3-2 : N 3 2 ≡ 18
   pub points-3-4 : N 3 4 ≡ 66
-  -- D(s,l) = binomial(l,s), 0 where s exceeds l; S(s,k) = binomial(k-1,s-1), and no numbers at all sum to 0, in one way
+  -- D(s,l) = binomial(l,s), 0 where s exceeds l; S(s,k) = binomial(k-1,s-1), and no numbers at all sum to 0, in one
+  -- way
   pub binomial-5-2 : binomial 5 2 ≡ 10
   pub patterns-2-5 : D 2 5 ≡ 10
   pub patterns-5-2 : D 5 2 ≡ 0

@@ -1,5 +1,5 @@
--- The rows of Pascal's triangle, each made of the one before: how antt works the stored counts out. Entry r of row n is binomial(n,r)
--- (proofs/Rows.antt). Assumes nothing.
+-- The rows of Pascal's triangle, each made of the one before: how antt works the stored counts out. Entry r of row
+-- n is binomial(n,r) (proofs/Rows.antt).
 use Prim.Native.Nat.{ℕ, zero, suc, _+_, _/_, _%_}
 use mathlib.Core.List.{List, [], _∷_}
 use lib.ListN.{getD}

@@ -1,5 +1,4 @@
--- The width of a total: document 01, "The width b is the least number of bits with 2^b at least N; for N = 1 it is 0". It is defined of
--- any total. Assumes nothing.
+-- The width of a total: docs/RULES.md, "Points and counts": "the least number of bits with 2^b at least T".
 use Prim.Native.Nat.{ℕ, zero, suc, _≤_, _^_}
 use mathlib.Core.Bool.{true, false}
 use lib.Dec.{leb}

@@ -1,5 +1,6 @@
--- Which bit of an index is the sign of which coordinate (document 01, "Sign index" and "Bits are counted from the last nonzero coordinate upward"):
--- bit j is that of the nonzero coordinate which has exactly j nonzero coordinates after it, and it is 1 where that one is negative. Assumes nothing.
+-- Which bit of an index is the sign of which coordinate (docs/RULES.md, "The product index", "Sign index"): bit j
+-- is that of the nonzero coordinate which has exactly j nonzero coordinates after it, and it is 1 where that one is
+-- negative.
 use Prim.Native.Nat.{ℕ, suc, _+_, _*_, _/_, _^_}
 use mathlib.Core.Path.{_≡_, sym, ap, _∙_}
 use mathlib.Core.List.{List, [], _∷_, _++_, map}

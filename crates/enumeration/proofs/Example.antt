@@ -1,4 +1,4 @@
--- The enumeration in small holds by computation. Assumes nothing.
+-- The enumeration in small holds by computation.
 use mathlib.Core.Path.{refl}
 use Rattle.counts.specs.Counts.{binomial, D, S, B, sumAfter, rangeSize, rangeStart}
 use Rattle.enumeration.specs.Example.{Example}

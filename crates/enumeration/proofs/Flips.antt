@@ -1,6 +1,7 @@
--- The sign theorem, for all lengths and radii: an index below N with some of its low s bits changed, s being the number of nonzero coordinates
--- of its point, is below N too, and its point is the first with exactly the coordinates of those bits negated. It holds since a range starts
--- at a multiple of 2^s: the low s bits of an index are those of its position in the range. Assumes nothing.
+-- The sign theorem, for all lengths and radii: an index below N with some of its low s bits changed, s being the
+-- number of nonzero coordinates of its point, is below N too, and its point is the first with exactly the
+-- coordinates of those bits negated. It holds since a range starts at a multiple of 2^s: the low s bits of an index
+-- are those of its position in the range.
 use Prim.Native.Nat.{ℕ, zero, suc, _+_, _-_, _*_, _/_, _%_, _^_, _≤_, _<_}
 use mathlib.Core.Path.{_≡_, refl, sym, ap, ap₂, _∙_}
 use mathlib.Core.List.{List, [], _∷_}
@@ -23,7 +24,7 @@ use Rattle.enumeration.proofs.Spread.{made}
 use Rattle.enumeration.proofs.RangeOf.{Holds, range-holds, range-found}
 use Rattle.enumeration.proofs.Product.{pattern-in, shape-in, in-parts, point-parts}
 
--- the document's (1,0,-1) with bit 1 of its index changed
+-- the worked case (1,0,-1) with bit 1 of its index changed
 turned : flipped 5 7 (pos 1 ∷ pos 0 ∷ negℤ (pos 1) ∷ []) ≡ negℤ (pos 1) ∷ pos 0 ∷ negℤ (pos 1) ∷ []
 turned = refl
 

@@ -1,4 +1,4 @@
--- What follows from the laws of any enumeration. Assumes nothing.
+-- What follows from the laws of any enumeration.
 use Prim.Native.Nat.{ℕ}
 use mathlib.Core.List.{List}
 use mathlib.Core.Path.{_≡_}

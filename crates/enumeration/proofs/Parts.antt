@@ -2,7 +2,6 @@
 --     pattern-part, shape-part, sign-part     each part of a point is below its count
 --     parts-back                              the point is put together again from its parts
 --     IsOf, from-parts                        a point put together from parts below their counts has those parts
--- Assumes nothing.
 use Prim.Native.Nat.{ℕ, _+_, _*_, _%_, _^_, _≤_, _<_}
 use mathlib.Core.Path.{_≡_, sym, ap, ap₂, _∙_}
 use mathlib.Core.List.{List}

@@ -1,10 +1,10 @@
 -- Patterns and their indices, for all lengths and numbers of nonzero coordinates:
---     third-pattern                     a pattern of the document's example
+--     third-pattern                     a pattern of a worked case
 --     pattern-zero, pattern-nonzero     how the n-th pattern begins
---     pattern-left, pattern-at-least    what is left where it begins with a nonzero; no more nonzero coordinates than the length
+--     pattern-left, pattern-at-least    what is left where it begins with a nonzero; no more nonzero coordinates
+--                                       than the length
 --     pattern-read                      the n-th pattern has length l, s nonzero coordinates and index n
 --     pattern-below, pattern-back       a pattern's index is below D(s,l), and that pattern is read back from it
--- Assumes nothing.
 use Prim.Native.Nat.{ℕ, zero, suc, _+_, _-_, _≤_, _<_}
 use mathlib.Core.Path.{_≡_, refl, ap, _∙_}
 use mathlib.Core.List.{List, [], _∷_}
@@ -32,7 +32,8 @@ pub pattern-nonzero : (s l n : ℕ) → D s l ≤ n → patternOf s (suc l) n �
 unfolding patternOf
 pattern-nonzero s l n h = rw (le-ltb n (D s l) h, patternOf)
 
--- D(s,l-1) of the patterns begin with a zero: where the n-th does not, s is above 0 and what is left is one of D(s-1,l-1)
+-- D(s,l-1) of the patterns begin with a zero: where the n-th does not, s is above 0 and what is left is one of
+-- D(s-1,l-1)
 pub pattern-left : (s l n : ℕ) → n < D s (suc l) → D s l ≤ n → (0 < s) × (n - D s l < D (s - 1) l)
 pattern-left zero l n h p = absurd (omega (arith, D-zero l, D-zero (suc l)))
 pattern-left (suc s) l n h p =

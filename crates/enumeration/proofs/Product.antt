@@ -1,4 +1,5 @@
--- The product enumeration is lawful: it numbers the points of every shell, for all lengths and radii. Its laws hang on one number, the position in a range, which signs, shapes and patterns make up as digits. Assumes nothing.
+-- The product enumeration is lawful: it numbers the points of every shell, for all lengths and radii. Its laws hang
+-- on one number, the position in a range, which signs, shapes and patterns make up as digits.
 use Prim.Native.Nat.{ℕ, zero, suc, _+_, _-_, _*_, _/_, _%_, _^_, _≤_, _<_}
 use mathlib.Core.Path.{_≡_, refl, ap, _∙_}
 use mathlib.Core.List.{List}
@@ -18,7 +19,7 @@ use Rattle.enumeration.specs.Reading.{rangeOf, pointFrom, pointWithin, p
 use Rattle.enumeration.proofs.RangeOf.{Holds, range-holds, range-found}
 use Rattle.enumeration.proofs.Parts.{pattern-part, shape-part, sign-part, nonzeros-part, parts-back, IsOf, from-parts}
 
--- the document's (1,0,-1) has pattern 1, shape 0 and signs 1, and index 5
+-- the worked case (1,0,-1) has pattern 1, shape 0 and signs 1, and index 5
 weighs-5 : indexFrom 2 3 2 1 0 1 ≡ 5
 unfolding indexFrom binomial D S B sumAfter rangeSize rangeStart
 weighs-5 = refl

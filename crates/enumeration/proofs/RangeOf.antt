@@ -1,10 +1,11 @@
 -- The range of an index, for all lengths and radii:
---     range-first, range-here, range-on, range-end     the search starts at m, stops at a range that holds n, passes one that ends before, and ends at 0
+--     range-first, range-here, range-on, range-end     the search starts at m, stops at a range that holds n, passes
+--                                                      one that ends before, and ends at 0
 --     starts-down                a range with a smaller s starts no earlier
 --     range-holds                the range of an index below N holds it
 --     range-found                an index has no other range than the one that holds it
---     found-below, none-found    a range from 1 on is found for no index past the end, and for each other, but at radius 0
--- Assumes nothing.
+--     found-below, none-found    a range from 1 on is found for no index past the end, and for each other, but at
+--                                radius 0
 use Prim.Native.Nat.{ℕ, zero, suc, _+_, _-_, _≤_, _<_}
 use mathlib.Core.Path.{_≡_, refl, _∙_}
 use native.Mathlib.Omega.{arith}

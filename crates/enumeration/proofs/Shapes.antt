@@ -3,10 +3,10 @@
 --     first-1, first-more          how the first magnitude is found, and what number of a shape is left
 --     first-read, first-back       its offset and what is left make up the number; and it is found again from them
 --     shape-at-least               no more magnitudes than their sum
---     last-read, second-read       the last magnitude is all that is left; the one before it is one more than the number of its shape
+--     last-read, second-read       the last magnitude is all that is left; the one before it is one more than the
+--                                  number of its shape
 --     shape-read                   the n-th shape has s magnitudes, all above 0, that sum to k, and index n
 --     shape-below, shape-back      a shape's index is below S(s,k), and that shape is read back from it
--- Assumes nothing.
 use Prim.Native.Nat.{ℕ, zero, suc, _+_, _-_, _≤_, _<_}
 use mathlib.Core.Path.{_≡_, refl, ap, _∙_}
 use mathlib.Core.List.{List, [], _∷_}
@@ -50,7 +50,8 @@ pub first-more : (s k n : ℕ) → S s k ≤ n
 unfolding firstMagnitude shapeLeft
 first-more s k n h = (rw (le-ltb n (S s k) h, firstMagnitude), rw (le-ltb n (S s k) h, shapeLeft))
 
--- i is the first magnitude of the n-th shape of s+1 magnitudes that sum to k, and `left` the number of the shape that is left
+-- i is the first magnitude of the n-th shape of s+1 magnitudes that sum to k, and `left` the number of the shape
+-- that is left
 pub record IsFirst (s k n i left : ℕ) : Type 0 where
   pub from-1 : 0 < i
   pub to-sum : i ≤ k

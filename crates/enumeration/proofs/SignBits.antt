@@ -1,9 +1,9 @@
 -- Signs and their index, for any number of signs:
 --     first-highest                the first sign has the highest bit
 --     signs-length, signs-read     what the low s bits of n are as signs: s of them, with index n mod 2^s
---     sign-below, signs-back       the index of s signs is below 2^s, and they are read back from it whatever stands above it
+--     sign-below, signs-back       the index of s signs is below 2^s, and they are read back from it whatever stands
+--                                  above it
 --     bit-below                    a bit below s is the same whatever stands above the low s bits
--- Assumes nothing.
 use Prim.Native.Nat.{ℕ, zero, suc, _+_, _-_, _*_, _/_, _%_, _^_, _<_}
 use mathlib.Core.Path.{_≡_, refl, sym, ap, _∙_}
 use mathlib.Core.List.{List, [], _∷_}

@@ -1,10 +1,12 @@
 -- A point is its pattern, its shape and its signs, and is put together from them:
---     resigned, rebuilt                      a point's signs and shape give its nonzero coordinates, and these its coordinates
+--     resigned, rebuilt                      a point's signs and shape give its nonzero coordinates, and these its
+--                                            coordinates
 --     shape-positive, shape-sum              a point's shape is above 0 and sums to its radius
---     support-many, pattern-length           as many magnitudes, and signs, as nonzero coordinates; a pattern as long as the point
---     nonzeros-most, positive-most           no more nonzero coordinates than coordinates, and no more than they sum to
+--     support-many, pattern-length           as many magnitudes, and signs, as nonzero coordinates; a pattern as
+--                                            long as the point
+--     nonzeros-most, positive-most           no more nonzero coordinates than coordinates, and no more than they sum
+--                                            to
 --     Made, made                             what is put together from s signs and a shape of s magnitudes above 0
--- Assumes nothing.
 use Prim.Native.Nat.{ℕ, zero, suc, _+_, _≤_}
 use mathlib.Core.Path.{_≡_, refl, ap, ap₂}
 use mathlib.Core.List.{List, [], _∷_, map}

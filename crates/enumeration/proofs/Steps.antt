@@ -1,5 +1,5 @@
--- One coordinate at a time: how a point's pattern and signs grow by a coordinate in front, and how a point is written from its parts, the first coordinate
--- first. Assumes nothing.
+-- One coordinate at a time: how a point's pattern and signs grow by a coordinate in front, and how a point is
+-- written from its parts, the first coordinate first.
 use Prim.Native.Nat.{ℕ, suc, _+_, _-_, _*_, _≤_, _<_}
 use mathlib.Core.Path.{_≡_, refl}
 use mathlib.Core.List.{List, [], _∷_}

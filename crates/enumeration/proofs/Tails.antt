@@ -1,4 +1,4 @@
--- The tail of a list as a loop from its end sees it: one element more. Assumes nothing.
+-- The tail of a list as a loop from its end sees it: one element more.
 use Prim.Native.Nat.{ℕ, zero, suc, _-_, _≤_, _<_}
 use mathlib.Core.Path.{_≡_}
 use mathlib.Core.List.{List, _∷_}

@@ -1,5 +1,5 @@
--- A way to number the points of every shell, and what makes it lawful: index and point undo each other between the points of a shell and the indices
--- that name one. Assumes nothing.
+-- A way to number the points of every shell, and what makes it lawful: index and point undo each other between the
+-- points of a shell and the indices that name one.
 use Prim.Native.Nat.{ℕ, _<_}
 use mathlib.Core.Path.{_≡_}
 use mathlib.Core.List.{List}

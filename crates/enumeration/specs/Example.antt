@@ -1,6 +1,7 @@
--- The enumeration in small: six patterns, six shapes, and all 18 points of length 3 and radius 2, each in the order of their indices. Of the points
--- those with two nonzero coordinates come first, from 0 on: three patterns, 0xx, x0x and xx0, one shape, 1 1, and four signs of each. With one, from
--- 12 on, there are the patterns 00x, 0x0 and x00, the shape 2, and two signs of each. proofs/Example.antt computes every line. Assumes nothing.
+-- The enumeration in small: six patterns, six shapes, and all 18 points of length 3 and radius 2, each in the order
+-- of their indices. Of the points those with two nonzero coordinates come first, from 0 on: three patterns, 0xx,
+-- x0x and xx0, one shape, 1 1, and four signs of each. With one, from 12 on, there are the patterns 00x, 0x0 and
+-- x00, the shape 2, and two signs of each. proofs/Example.antt computes every line.
 use Prim.Native.Nat.{ℕ, zero, suc}
 use mathlib.Core.Path.{_≡_}
 use mathlib.Core.List.{List, [], _∷_, map}
@@ -71,8 +72,8 @@ pub record Example : Type 0 where
   -- all points of length 3 and radius 2
   pub read : map (productPoint 3 2) (from 0 18) ≡ points-3-2
   pub indexed : map productIndex points-3-2 ≡ from 0 18
-  -- points of length 4 and radius 5, where patterns, shapes and signs all vary: 360 points, with 4, 3, 2 and 1 nonzero coordinates from 0, 64, 256 and
-  -- 352 on
+  -- points of length 4 and radius 5, where patterns, shapes and signs all vary: 360 points, with 4, 3, 2 and 1
+  -- nonzero coordinates from 0, 64, 256 and 352 on
   pub index-18 : productIndex (pos 1 ∷ pos 1 ∷ negℤ (pos 2) ∷ pos 1 ∷ []) ≡ 18
   pub index-90 : productIndex (pos 0 ∷ pos 2 ∷ negℤ (pos 1) ∷ pos 2 ∷ []) ≡ 90
   pub index-133 : productIndex (negℤ (pos 1) ∷ pos 0 ∷ pos 3 ∷ negℤ (pos 1) ∷ []) ≡ 133

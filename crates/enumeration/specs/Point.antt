@@ -1,5 +1,5 @@
--- A point, and what the product index looks at in it: document 01, "Points and counts" and "The product index". Coordinates are whole numbers
--- of any size. Assumes nothing.
+-- A point, and what the product index looks at in it: docs/RULES.md, "Points and counts" and "The product index".
+-- Coordinates are whole numbers of any size.
 use Prim.Native.Nat.{ℕ, zero, suc, _+_}
 use mathlib.Core.Path.{_≡_}
 use mathlib.Core.List.{List, [], _∷_, map}

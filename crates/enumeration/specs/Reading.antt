@@ -1,6 +1,6 @@
--- The point of an index: document 01, "To read an index, take the first s, counted down from m, whose range holds it"; then the pattern, the
--- shape and the signs are read from the position in that range. Written by itself, and not as the reverse of specs/Product.antt; that each
--- undoes the other is proved. Assumes nothing.
+-- The point of an index: docs/RULES.md, "Point of an index": "take the first s whose range holds the index"; then
+-- the pattern, the shape and the signs are read from the position in that range. Written by itself, and not as the
+-- reverse of specs/Product.antt; that each undoes the other is proved.
 use Prim.Native.Nat.{ℕ, zero, suc, _+_, _-_, _/_, _%_, _^_}
 use mathlib.Core.List.{List, [], _∷_}
 use mathlib.Core.Bool.{Bool, true, false, _&&_}
@@ -27,8 +27,9 @@ unfoldable pub patternOf : ℕ → ℕ → ℕ → List Bool
 patternOf s zero n = []
 patternOf s (suc l) n = elim (ltb n (D s l)) [ true ↦ false ∷ patternOf s l n | false ↦ true ∷ patternOf (s - 1) l (n - D s l) ]
 
--- Of the n-th shape of s+1 magnitudes that sum to k: its first magnitude, and the number of the shape that is left. The S(s,k-1) shapes that
--- begin with 1 come first; the others are those that sum to k-1, with a first magnitude larger by 1.
+-- Of the n-th shape of s+1 magnitudes that sum to k: its first magnitude, and the number of the shape that is left.
+-- The S(s,k-1) shapes that begin with 1 come first; the others are those that sum to k-1, with a first magnitude
+-- larger by 1.
 unfoldable pub firstMagnitude : ℕ → ℕ → ℕ → ℕ
 firstMagnitude s zero n = 0
 firstMagnitude s (suc k) n = elim (ltb n (S s k)) [ true ↦ 1 | false ↦ suc (firstMagnitude s k (n - S s k)) ]

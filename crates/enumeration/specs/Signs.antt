@@ -1,5 +1,4 @@
--- What changed sign bits do to a point: document 01, "Sign index" and "Bits are counted from the last nonzero coordinate upward". Assumes
--- nothing.
+-- What changed sign bits do to a point: docs/RULES.md, "The product index", "Sign index".
 use Prim.Native.Nat.{ℕ}
 use mathlib.Core.List.{List, [], _∷_}
 use mathlib.Core.Bool.{cond}
@@ -8,8 +7,8 @@ use lib.IntN.{ℤ, negℤ}
 use Rattle.enumeration.specs.Point.{nonzerosIn}
 use Rattle.enumeration.specs.Reading.{bit}
 
--- The bit of a coordinate is the number of nonzero coordinates after it. Where n and n′ differ in that bit the coordinate is negated; a zero
--- stays what it is.
+-- The bit of a coordinate is the number of nonzero coordinates after it. Where n and n′ differ in that bit the
+-- coordinate is negated; a zero stays what it is.
 abbrev pub flipped : ℕ → ℕ → List ℤ → List ℤ
 flipped n n′ [] = []
 flipped n n′ (c ∷ x) = cond (eqb (bit (nonzerosIn x) n) (bit (nonzerosIn x) n′)) c (negℤ c) ∷ flipped n n′ x

@@ -1,5 +1,5 @@
--- A whole number of magnitude below 2^24 converts without rounding, and its quotient by 256 is exact too; and a float is known by its sign and its X,
--- so that no other is that number over 256. Assumes nothing.
+-- A whole number of magnitude below 2^24 converts without rounding, and its quotient by 256 is exact too; and a
+-- float is known by its sign and its X, so that no other is that number over 256.
 use Prim.Native.Nat.{ℕ, _+_, _-_, _*_, _/_, _^_, _≤_, _<_}
 use mathlib.Core.Path.{_≡_, refl, sym, ap, ap₂, _∙_}
 use mathlib.Core.Bool.{Bool, true, false, cond, false≢true}

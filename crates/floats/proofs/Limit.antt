@@ -1,5 +1,5 @@
--- Which coefficients the code lets through: those between -32,768 and 32,768, which are just the usable ones; and they become whole numbers of at
--- most 2^23. Assumes nothing.
+-- Which coefficients the code lets through: those between -32,768 and 32,768, which are just the usable ones; and
+-- they become whole numbers of at most 2^23.
 use Prim.Native.Nat.{ℕ, _+_, _*_, _/_, _%_, _^_, _≤_, _<_, compare}
 use mathlib.Core.Path.{_≡_, refl, sym, ap, _∙_}
 use mathlib.Core.Bool.{Bool, true, false, not, false≢true}

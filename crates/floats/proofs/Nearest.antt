@@ -1,5 +1,5 @@
--- The whole number nearest to a / b, ties to even: a number is that if its multiple of b is within half of b from a, and it is even where it is
--- just half; `closest` gives such a number, and no two numbers are so. Assumes nothing.
+-- The whole number nearest to a / b, ties to even: a number is that if its multiple of b is within half of b from
+-- a, and it is even where it is just half; `closest` gives such a number, and no two numbers are so.
 use Prim.Native.Nat.{ℕ, zero, suc, _+_, _-_, _*_, _/_, _%_, _^_, _≤_, _<_, compare, Ordering, Ordering·lt, Ordering·eq, Ordering·gt}
 use mathlib.Core.Path.{_≡_, sym, ap, _∙_, subst}
 use mathlib.Core.Logic.{_⊎_, inl, inr}

@@ -1,5 +1,5 @@
--- Which bit patterns are refused: with the sign off, exactly those from that of 32,768 on, the infinities and every NaN among them; 32,768 has the
--- exponent field 142 and no digits. Assumes nothing.
+-- Which bit patterns are refused: with the sign off, exactly those from that of 32,768 on, the infinities and every
+-- NaN among them; 32,768 has the exponent field 142 and no digits.
 use Prim.Native.Nat.{ℕ, zero, suc, _+_, _*_, _/_, _%_, _^_, _≤_, _<_}
 use mathlib.Core.Path.{_≡_, refl, sym, ap, _∙_}
 use mathlib.Core.Bool.{Bool, true, false, cond}

@@ -1,5 +1,6 @@
--- What the code's multiplication and addition make of a coefficient u / 2^149, u below 32,768 x 2^149: 256 times it is exact, and beside 2^23 an
--- f32 has no digit for a fraction, so that the addition rounds to the nearest whole number. Assumes nothing.
+-- What the code's multiplication and addition make of a coefficient u / 2^149, u below 32,768 x 2^149: 256 times it
+-- is exact, and beside 2^23 an f32 has no digit for a fraction, so that the addition rounds to the nearest whole
+-- number.
 use Prim.Native.Nat.{ℕ, zero, suc, _+_, _-_, _*_, _/_, _%_, _^_, _≤_, _<_, compare, Ordering, Ordering·lt, Ordering·eq, Ordering·gt}
 use mathlib.Core.Path.{_≡_, refl, sym, ap, _∙_, subst}
 use mathlib.Core.Bool.{true, false, false≢true}

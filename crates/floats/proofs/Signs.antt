@@ -1,4 +1,4 @@
--- A coefficient and its negation: both are usable or neither is, and both become the same whole number. Assumes nothing.
+-- A coefficient and its negation: both are usable or neither is, and both become the same whole number.
 use Prim.Native.Nat.{ℕ, _*_, _^_}
 use mathlib.Core.Path.{_≡_, refl, sym, ap, _∙_}
 use mathlib.Core.Bool.{Bool, true, false, not, false≢true}

@@ -1,5 +1,5 @@
--- A finite f32 is X over 2^149, with its sign, where X is what its bits give; and X is at most 24 digits, shifted up. Two numbers X and Y that
--- one float has are equal. Assumes nothing.
+-- A finite f32 is X over 2^149, with its sign, where X is what its bits give; and X is at most 24 digits, shifted
+-- up. Two numbers X and Y that one float has are equal.
 use Prim.Native.Nat.{ℕ, zero, suc, _+_, _*_, _/_, _%_, _^_, _<_}
 use mathlib.Core.Path.{_≡_, refl, sym, ap, _∙_, subst}
 use mathlib.Core.Bool.{Bool, true, false, cond}

@@ -1,5 +1,5 @@
--- An f32 that is a whole number over 256, exactly (document 01, "The page": the value of a coefficient is exact, and zero is positive zero). It is
--- judged as the rounding is: on 256 X against the multiples of 2^149. Assumes nothing.
+-- An f32 that is a whole number over 256, exactly (docs/RULES.md, "The page": the value of a coefficient is exact,
+-- and zero is positive zero). It is judged as the rounding is: on 256 X against the multiples of 2^149.
 use Prim.Native.Nat.{_*_, _^_}
 use mathlib.Core.Path.{_≡_}
 use mathlib.Core.Bool.{Bool, true, false}

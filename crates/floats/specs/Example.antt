@@ -1,5 +1,5 @@
--- Document 01's coefficients and the whole numbers that they become ("Proofs of single values"), by the definitions. proofs/Example.antt computes
--- every line, so that another rounding or another limit disagrees with it. Assumes nothing.
+-- The coefficients of docs/RULES.md, "Worked cases", and the whole numbers that they become, by the definitions.
+-- proofs/Example.antt computes every line, so that another rounding or another limit disagrees with it.
 use Prim.Native.Nat.{ℕ, _-_, _^_}
 use mathlib.Core.Path.{_≡_}
 use mathlib.Core.Bool.{Bool, true, false}

@@ -1,12 +1,13 @@
--- An f32 as a whole number over 2^149 (document 01, "Quantizing into a record"): what "exact", "nearest" and "of magnitude 32,768 or more" are
--- judged on. A bit pattern is a sign, 8 bits of exponent field and 23 digits. Assumes nothing.
+-- An f32 as a whole number over 2^149 (docs/RULES.md, "Quantizing into a record"): what "exact", "nearest" and "of
+-- magnitude 32,768 or more" are judged on. A bit pattern is a sign, 8 bits of exponent field and 23 digits.
 use Prim.Native.Nat.{ℕ, zero, suc, _+_, _*_, _/_, _%_, _^_}
 use mathlib.Core.Bool.{Bool, true, false}
 use lib.Dec.{leb}
 use lib.Ieee.{Float, nan, inf, fin, binary32, toBits, lt}
 use lib.IntN.{pos}
 
--- the whole number that an exponent field and the digits stand for: a field of 0 has no leading digit, and counts as a field of 1
+-- the whole number that an exponent field and the digits stand for: a field of 0 has no leading digit, and counts
+-- as a field of 1
 abbrev pub ofFields : ℕ → ℕ → ℕ
 ofFields zero digits = digits
 ofFields (suc x) digits = (2 ^ 23 + digits) * 2 ^ x

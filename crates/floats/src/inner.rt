@@ -1,5 +1,5 @@
-// A coefficient, an f32 of any bit pattern: whether it can be used, its sign, and the whole number that it becomes; and back, the f32 of a whole
-// number over 256.
+// A coefficient, an f32 of any bit pattern: whether it can be used, its sign, and the whole number that it becomes;
+// and back, the f32 of a whole number over 256.
 ghost use mathlib.Core.Path.{_≡_};
 ghost use mathlib.Core.Bool.{false};
 ghost use Prim.Native.Nat.{_^_, _≤_, _<_};
@@ -26,7 +26,8 @@ pub fn is_negative(x: f32) -> bool
     x < 0.0
 }
 
-// Beside 2^23 an f32 has no room for a fraction: the addition itself rounds to the nearest whole number, ties to even.
+// Beside 2^23 an f32 has no room for a fraction: the addition itself rounds to the nearest whole number, ties to
+// even.
 fn rounded(x: f32) -> u32
     requires { ⌜ (unusableCoefficient x ≡ false) × (negative x ≡ false) ⌝ }
     ensures { λ r. ⌜ (r ≡ nearestWhole x) × (r ≤ 2 ^ 23) ⌝ }

@@ -1,5 +1,6 @@
--- The cells of a page: a cell that was set is read back, the others are as they were, the page keeps its length, and pages of one length with the
--- same cells are the same. Argued from where states and records stand (proofs/Offsets.antt). Assumes nothing.
+-- The cells of a page: a cell that was set is read back, the others are as they were, the page keeps its length,
+-- and pages of one length with the same cells are the same. Argued from where states and records stand
+-- (proofs/Offsets.antt).
 use Prim.Native.Nat.{ℕ, _+_, _-_, _≤_, _<_}
 use mathlib.Core.Path.{_≡_, sym, ap, ap₂, _∙_}
 use mathlib.Core.List.{List}

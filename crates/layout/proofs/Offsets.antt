@@ -1,5 +1,5 @@
--- The offsets of states and records in a page of n places: each is in the page, no two stand in the same place, and together they are all of it. Nothing
--- else here knows what the offsets are. Assumes nothing.
+-- The offsets of states and records in a page of n places: each is in the page, no two stand in the same place, and
+-- together they are all of it. Nothing else here knows what the offsets are.
 use Prim.Native.Nat.{ℕ, _+_, _-_, _/_, _%_, _≤_, _<_}
 use mathlib.Core.Logic.{_⊎_, inl, inr}
 use mathlib.Core.Path.{_≡_}

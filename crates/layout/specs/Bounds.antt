@@ -1,4 +1,4 @@
--- What the functions of a page ask: that a place has its cell in the page. Assumes nothing.
+-- What the functions of a page ask: that a place has its cell in the page.
 use Prim.Native.Nat.{ℕ, _≤_, _<_}
 use mathlib.Core.List.{List}
 use mathlib.Core.Path.{_≡_}

@@ -1,4 +1,5 @@
--- A page of two places in which every byte differs from the others: read and changed. proofs/Example.antt computes every line. Assumes nothing.
+-- A page of two places in which every byte differs from the others: read and changed. proofs/Example.antt computes
+-- every line.
 use Prim.Native.Nat.{ℕ}
 use mathlib.Core.Path.{_≡_}
 use mathlib.Core.List.{List, [], _∷_}

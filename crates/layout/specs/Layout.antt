@@ -1,5 +1,5 @@
--- Where the state and the record of a place stand in a page (document 01, "The page": 9 bytes a place, a state and a record), and how long a page is.
--- It is said here and nowhere else. pg is the bytes of a page, p a place. Assumes nothing.
+-- Where the state and the record of a place stand in a page (docs/RULES.md, "The page": 9 bytes a place, a state
+-- and a record), and how long a page is. It is said here and nowhere else. pg is the bytes of a page, p a place.
 use Prim.Native.Nat.{ℕ, _+_, _*_}
 use mathlib.Core.List.{List}
 use lib.ListN.{getD, set, take, drop, replicate}

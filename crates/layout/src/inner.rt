@@ -1,4 +1,4 @@
-// The length of a page, and a place's state and record in it, read and changed. These are no calls: what they require, each caller is proved to meet.
+// The length of a page, and a place's state and record in it, read and changed.
 ghost use mathlib.Core.Path.{_≡_};
 ghost use Prim.Native.Nat.{_≤_, _<_};
 ghost use lib.ListN.{length};

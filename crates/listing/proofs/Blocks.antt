@@ -1,4 +1,4 @@
--- Records taken block by block: whole blocks so far, and one more. Assumes nothing.
+-- Records taken block by block: whole blocks so far, and one more.
 use Prim.Native.Nat.{ℕ, _+_, _*_}
 use mathlib.Core.List.{List, [], _++_}
 use mathlib.Core.Path.{_≡_, refl, sym, ap, ap₂, _∙_}

@@ -1,5 +1,5 @@
--- What the program takes from the calls' contracts: the first bytes of a buffer, as many as a call says that it has written; how many takes of a block can
--- be refused; and how many places a table can have. Assumes nothing.
+-- What the program takes from the calls' contracts: the first bytes of a buffer, as many as a call says that it has
+-- written; how many takes of a block can be refused; and how many places a table can have.
 use Prim.Native.Nat.{ℕ, _≤_}
 use mathlib.Core.List.{List}
 use mathlib.Core.Path.{_≡_, sym, ap, _∙_}

@@ -1,3 +1,3 @@
-// What the program is made of. These are no calls: what they require, each caller is proved to meet.
+// What the program is made of.
 pub mod input;
 pub mod output;

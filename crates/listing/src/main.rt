@@ -1,6 +1,7 @@
-// The listing program (document 01, "Listing program"): lists the page that `records.bin` makes with the table in `pairing.bin`, both in the directory
-// that it is run in. It takes the records a block at a time and writes the lines a block at a time, so its memory does not grow with the files. What is
-// taken and what is written is decided by the calls; a missing file is empty, and so is one that cannot be opened, which standard error tells.
+// The listing program (docs/RULES.md, "Listing program"): lists the page that `records.bin` makes with the table in
+// `pairing.bin`, both in the directory that it is run in. It takes the records a block at a time and writes the
+// lines a block at a time, so its memory does not grow with the files. What is taken and what is written is decided
+// by the calls; a missing file is empty, and so is one that cannot be opened, which standard error tells.
 mod inner;
 
 use inner::input::read_table;

@@ -1,4 +1,4 @@
--- The numbering of a row's shell: what is asked of it is what the row's enumeration says. Assumes nothing.
+-- The numbering of a row's shell: what is asked of it is what the row's enumeration says.
 use Prim.Native.Nat.{ℕ}
 use mathlib.Core.List.{List}
 use mathlib.Core.Path.{_≡_, sym, ap, ap₂, _∙_}

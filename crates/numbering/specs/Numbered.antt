@@ -1,4 +1,5 @@
--- What a numbering of the points of a shell is, and what is asked of it. m is the shell as the code hands it over, n an index. Assumes nothing.
+-- What a numbering of the points of a shell is, and what is asked of it. m is the shell as the code hands it over,
+-- n an index.
 use Prim.Native.Nat.{ℕ, _≤_, _<_}
 use mathlib.Core.Path.{_≡_}
 use mathlib.Core.List.{List}

@@ -1,4 +1,4 @@
-// A shell's numbering, by value, and what can be asked of it. These are no calls: what they require, each caller is proved to meet.
+// A shell's numbering, by value, and what can be asked of it.
 use counts::Length;
 use counts::Radius;
 use product::inner::range::Range;

@@ -1,4 +1,4 @@
--- Bytes that were written high byte first read as the number again, if it fits them. Assumes nothing.
+-- Bytes that were written high byte first read as the number again, if it fits them.
 use Prim.Native.Nat.{ℕ, zero, suc, _+_, _*_, _/_, _%_, _^_, _<_}
 use mathlib.Core.Path.{_≡_, refl, ap, _∙_}
 use native.Mathlib.Omega.{arith}

@@ -1,4 +1,4 @@
--- A number read from the middle of some bytes, byte by byte. Assumes nothing.
+-- A number read from the middle of some bytes, byte by byte.
 use Prim.Native.Nat.{ℕ, suc, _+_, _*_, _<_}
 use mathlib.Core.Path.{_≡_}
 use mathlib.Core.List.{List}

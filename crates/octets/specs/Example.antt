@@ -1,5 +1,5 @@
--- Numbers and their bytes, written out: another order of the bytes, or another base, disagrees. proofs/Example.antt computes every line. Assumes
--- nothing.
+-- Numbers and their bytes, written out: another order of the bytes, or another base, disagrees. proofs/Example.antt
+-- computes every line.
 use mathlib.Core.Path.{_≡_}
 use mathlib.Core.List.{[], _∷_}
 use Rattle.octets.specs.Octets.{highFirst, fromHigh}

@@ -1,5 +1,5 @@
--- A number as bytes, high byte first (document 01, "Pairing table": "numbers high byte first", and "Quantizing into a record": "high byte first").
--- Every number of several bytes, in a table and in a record, is written and read by these definitions. Assumes nothing.
+-- A number as bytes, high byte first (docs/RULES.md: "A number of several bytes has its high byte first"). Every
+-- number of several bytes, in a table and in a record, is written and read by these definitions.
 use Prim.Native.Nat.{ℕ, zero, suc, _+_, _*_, _/_, _%_, _^_}
 use mathlib.Core.List.{List, [], _∷_}
 

@@ -1,4 +1,5 @@
--- What collect does, part by part: a take that is answered with a refusal counts 1, and what is left of the run decides. Assumes nothing.
+-- What collect does, part by part: a take that is answered with a refusal counts 1, and what is left of the run
+-- decides.
 use Prim.Native.Nat.{ℕ, _+_, _-_, _/_, _≤_, _<_, min}
 use mathlib.Core.Bool.{Bool, true}
 use mathlib.Core.List.{List, [], _∷_}

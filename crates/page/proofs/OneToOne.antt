@@ -1,5 +1,5 @@
--- Two answers that the contract of a call of the page allows are equal: answers that say the same, and carry the same values, are the same. Assumes
--- nothing.
+-- Two answers that the contract of a call of the page allows are equal: answers that say the same, and carry the
+-- same values, are the same.
 use Prim.Native.Nat.{ℕ, zero, suc}
 use mathlib.Core.List.{List, []}
 use mathlib.Core.Path.{_≡_, refl, sym, ap₂, _∙_}

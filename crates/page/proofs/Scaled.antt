@@ -1,5 +1,5 @@
--- A coordinate of magnitude at most 32 times a step: the product fits an i32 and stays below 2^24. What a place shows has no
--- larger coordinate. Assumes nothing.
+-- A coordinate of magnitude at most 32 times a step: the product fits an i32 and stays below 2^24. What a place
+-- shows has no larger coordinate.
 use Prim.Native.Nat.{ℕ, zero, suc, _+_, _*_, _^_, _≤_, _<_}
 use mathlib.Core.List.{List, [], _∷_, _++_}
 use mathlib.Core.Path.{_≡_, refl, ap, _∙_}

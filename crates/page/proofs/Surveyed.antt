@@ -1,4 +1,4 @@
--- What a call of the page knows once its survey has answered. Assumes nothing.
+-- What a call of the page knows once its survey has answered.
 use Prim.Native.Nat.{ℕ}
 use mathlib.Core.List.{List}
 use mathlib.Core.Path.{_≡_}

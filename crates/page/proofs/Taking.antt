@@ -1,4 +1,4 @@
--- What take says and leaves with a table and a page that passed, check by check. Assumes nothing.
+-- What take says and leaves with a table and a page that passed, check by check.
 use Prim.Native.Nat.{ℕ, _≤_, _<_}
 use mathlib.Core.Bool.{Bool, true, false}
 use mathlib.Core.List.{List, [], _∷_}

@@ -1,5 +1,5 @@
--- What the tally says with a table and a page that passed, place by place: the answers so far are counted, and the checks that are left decide.
--- Assumes nothing.
+-- What the tally says with a table and a page that passed, place by place: the answers so far are counted, and the
+-- checks that are left decide.
 use Prim.Native.Nat.{ℕ, _+_, _-_, _≤_, _<_}
 use mathlib.Core.Bool.{true, false}
 use mathlib.Core.List.{List, [], _∷_}

@@ -1,4 +1,4 @@
--- What the functions of the page ask of a table and a page that were surveyed. Assumes nothing.
+-- What the functions of the page ask of a table and a page that were surveyed.
 use Prim.Native.Nat.{ℕ}
 use mathlib.Core.List.{List}
 use mathlib.Core.Path.{_≡_}

@@ -1,4 +1,5 @@
--- What the answers of the page's calls say, case by case: 0 and document 01's values, or a refusal's number and values. Assumes nothing.
+-- What the answers of the page's calls say, case by case: 0 and the values of the rules, or a refusal's number and
+-- values.
 use Prim.Native.Nat.{ℕ}
 use mathlib.Core.List.{List, [], _∷_}
 use lib.Ieee.{Float}
@@ -57,7 +58,7 @@ abbrev pub coefficientValues : Valued → List Float
 coefficientValues (valued.Answered v) = valuesIn v
 coefficientValues (valued.Refused refusal) = []
 
--- the five counts, in the order of document 01
+-- the five counts, in the order of the rules
 abbrev pub countsMeaning : Counts → List ℕ
 countsMeaning c = c .sound ∷ c .mended ∷ c .missing ∷ c .contested ∷ c .unreadable ∷ []
 

@@ -1,4 +1,4 @@
-// What the calls of the page are made of. These are no calls: what they require, each caller is proved to meet.
+// What the calls of the page are made of.
 pub mod reading;
 pub mod taking;
 pub mod tallying;

@@ -1,5 +1,5 @@
-// The calls of the page (document 01, "The page"): take a record, collect a run of records, read a place, one coefficient, and the tally. What
-// they are made of stands in `inner`; what they are to say, in `rules`.
+// The calls of the page (docs/RULES.md, "The page"): take a record, collect a run of records, read a place, one
+// coefficient, and the tally. What they are made of stands in `inner`; what they are to say, in `rules`.
 pub mod inner;
 
 use answers::Refusal;
@@ -77,8 +77,8 @@ pub fn take(table: &[u8], page: &mut [u8], bytes: &[u8]) -> Arrival
     }
 }
 
-// The call collect: a run of bytes, eight by eight and a shorter last part too, each taken in turn; how many takes were refused. With a bad table
-// or a page of another length all of them are.
+// The call collect: a run of bytes, eight by eight and a shorter last part too, each taken in turn; how many takes
+// were refused. With a bad table or a page of another length all of them are.
 pub fn collect(table: &[u8], page: &mut [u8], bytes: &[u8]) -> usize
     ensures { λ r. ⌜ (r ≡ collected (now (table .entry)) (now (page .entry)) (now (bytes .entry)) .refused)
         × (now (page .exit) ≡ collected (now (table .entry)) (now (page .entry)) (now (bytes .entry)) .page) ⌝ }

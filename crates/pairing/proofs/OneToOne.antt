@@ -1,4 +1,4 @@
--- Two answers that the contract of check, or of a survey, allows are equal. Assumes nothing.
+-- Two answers that the contract of check, or of a survey, allows are equal.
 use Prim.Native.Nat.{ℕ}
 use mathlib.Core.Path.{_≡_, refl}
 use mathlib.Core.List.{List}

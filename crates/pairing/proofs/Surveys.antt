@@ -1,6 +1,6 @@
--- A survey by any checks: what its answer tells, what a call says and leaves whose survey is refused, and one check more; and the row of a surveyed
--- place, with what a call says and leaves that goes on with that row. So every call that begins with a survey is argued in the same way, whatever the
--- checks are. Assumes nothing.
+-- A survey by any checks: what its answer tells, what a call says and leaves whose survey is refused, and one check
+-- more; and the row of a surveyed place, with what a call says and leaves that goes on with that row. So every call
+-- that begins with a survey is argued in the same way, whatever the checks are.
 use Prim.Native.Nat.{ℕ, _<_}
 use mathlib.Core.Path.{_≡_, refl, sym, ap, ap₂, _∙_}
 use mathlib.Core.List.{List, [], _∷_, _++_}

@@ -1,4 +1,5 @@
--- What the answers of the call check and of a survey say, case by case: 0 and document 01's values, or a refusal's number and values. Assumes nothing.
+-- What the answers of the call check and of a survey say, case by case: 0 and the values of the rules, or a
+-- refusal's number and values.
 use Prim.Native.Nat.{ℕ}
 use mathlib.Core.List.{List, [], _∷_}
 use Rattle.answers.specs.Refusals.{meaning}

@@ -1,3 +1,3 @@
-// What other calls ask of a table. These are no calls: what they require, each caller is proved to meet.
+// What other calls ask of a table.
 pub mod survey;
 pub mod walking;

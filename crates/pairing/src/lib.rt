@@ -1,5 +1,5 @@
-// The pairing table, which the desk sets and no call writes to (document 01, "Pairing table"): the call check. What the other calls ask
-// of a table stands in `inner`.
+// The pairing table, which the desk sets and no call writes to (docs/RULES.md, "Pairing table"): the call check.
+// What the other calls ask of a table stands in `inner`.
 pub mod inner;
 
 use answers::Refusal;

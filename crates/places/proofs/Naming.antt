@@ -1,4 +1,4 @@
--- An index that names a point of a row, asked of the numbering of that row's shell. Assumes nothing.
+-- An index that names a point of a row, asked of the numbering of that row's shell.
 use Prim.Native.Nat.{ℕ}
 use mathlib.Core.List.{List}
 use mathlib.Core.Path.{_∙_}

@@ -1,4 +1,4 @@
--- The check of the page's length behind a survey by any checks, and what a place of such a page is known by. Assumes nothing.
+-- The check of the page's length behind a survey by any checks, and what a place of such a page is known by.
 use Prim.Native.Nat.{ℕ, _<_}
 use mathlib.Core.Bool.{Bool, true, false}
 use mathlib.Core.List.{List, [], _∷_, _++_}

@@ -1,4 +1,4 @@
--- A place looked at: refusal 12 for its cell, or the cell's answer. Assumes nothing.
+-- A place looked at: refusal 12 for its cell, or the cell's answer.
 use Prim.Native.Nat.{ℕ}
 use mathlib.Core.Bool.{true, false}
 use mathlib.Core.List.{List}

@@ -1,4 +1,4 @@
--- Two answers that the contract of index, or of point, allows are equal. Assumes nothing.
+-- Two answers that the contract of index, or of point, allows are equal.
 use Prim.Native.Nat.{ℕ}
 use mathlib.Core.Path.{_≡_, refl}
 use mathlib.Core.List.{List}

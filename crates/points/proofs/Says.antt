@@ -1,4 +1,4 @@
--- What the calls index and point say and leave in a usable shell, by the facts that a call finds. Assumes nothing.
+-- What the calls index and point say and leave in a usable shell, by the facts that a call finds.
 use Prim.Native.Nat.{ℕ, _≤_, _<_}
 use mathlib.Core.Path.{_≡_, refl}
 use mathlib.Core.List.{List, [], _∷_}

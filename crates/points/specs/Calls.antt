@@ -1,5 +1,5 @@
--- What the calls index and point say, and what point leaves in the lent buffer: document 01, "The product index", "Refusal numbers" and
--- "Order of checks". l is the length and k the radius, any whole numbers; n is an index. Assumes nothing.
+-- What the calls index and point say, and what point leaves in the lent buffer: docs/RULES.md, "The product index",
+-- "Refusal numbers" and "Order of checks". l is the length and k the radius, any whole numbers; n is an index.
 use Prim.Native.Nat.{ℕ}
 use mathlib.Core.List.{List, [], _∷_, _++_}
 use mathlib.Core.Bool.{Bool, not}

@@ -1,4 +1,5 @@
-// The calls index and point (document 01, "The product index"). How the points of a shell are numbered stands in `numbering`.
+// The calls index and point (docs/RULES.md, "The product index"). How the points of a shell are numbered stands in
+// `numbering`.
 use answers::Refusal;
 use answers::Verdict;
 use coordinates::inner::magnitude_sum;

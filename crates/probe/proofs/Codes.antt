@@ -1,4 +1,4 @@
--- One number for what a call says: the code of an answer, and of a refusal. Assumes nothing.
+-- One number for what a call says: the code of an answer, and of a refusal.
 use Prim.Native.Nat.{ℕ, _+_, _^_}
 use mathlib.Core.Path.{_≡_, refl, sym, ap, _∙_}
 use mathlib.Core.List.{List, _∷_}

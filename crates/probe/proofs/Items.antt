@@ -1,4 +1,4 @@
--- Items past the end of what a call says are 0. Assumes nothing.
+-- Items past the end of what a call says are 0.
 use Prim.Native.Nat.{ℕ, zero, suc}
 use mathlib.Core.Path.{_≡_, refl, sym}
 use mathlib.Core.List.{[], _∷_}

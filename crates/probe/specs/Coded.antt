@@ -1,5 +1,5 @@
--- What a call says, in one number: its answer, or 2^40 plus the number of its refusal; or, where the answer has no value, 0 or the number.
--- Assumes nothing.
+-- What a call says, in one number: its answer, or 2^40 plus the number of its refusal; or, where the answer has no
+-- value, 0 or the number.
 use Prim.Native.Nat.{ℕ, zero, suc, _+_, _^_}
 use mathlib.Core.List.{List, [], _∷_}
 use lib.Ieee.{Float, binary32, ofBits}

@@ -1,5 +1,5 @@
-// The calls of the other crates, exported to C for the second program alone. An answer and a refusal come back in one number: the answer
-// itself, or 2^40 plus the refusal's number.
+// The calls of the other crates, exported to C for the second program alone. An answer and a refusal come back in
+// one number: the answer itself, or 2^40 plus the refusal's number.
 pub mod pages;
 
 use answers::Refusal;

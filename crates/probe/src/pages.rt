@@ -1,5 +1,5 @@
-// The calls of the page, exported to C for the second program alone. What a call says is a list: 0 and its values, or a refusal's number and what
-// it names. `which` picks an item of it; an item past the end is 0.
+// The calls of the page, exported to C for the second program alone. What a call says is a list: 0 and its values,
+// or a refusal's number and what it names. `which` picks an item of it; an item past the end is 0.
 use answers::Refusal;
 use answers::in_numbers;
 use page::Answer;

@@ -1,5 +1,5 @@
--- The shapes that come after that of a point: with those before it and itself they are all shapes of its number of magnitudes and its sum.
--- Assumes nothing.
+-- The shapes that come after that of a point: with those before it and itself they are all shapes of its number of
+-- magnitudes and its sum.
 use Prim.Native.Nat.{ℕ, suc, _+_, _-_}
 use mathlib.Core.Path.{_≡_}
 use mathlib.Core.List.{List, [], _∷_}

@@ -1,4 +1,4 @@
--- What the code tests of a coordinate, an i32: that it is zero, by its bits, and that it is negative. Assumes nothing.
+-- What the code tests of a coordinate, an i32: that it is zero, by its bits, and that it is negative.
 use Prim.Native.Nat.{zero, suc}
 use mathlib.Core.Path.{_≡_, refl, ap}
 use mathlib.Core.Bool.{true}

@@ -1,4 +1,4 @@
--- The counts for one and for two nonzero coordinates, as the code has them without a look-up. Assumes nothing.
+-- The counts for one and for two nonzero coordinates, as the code has them without a look-up.
 use Prim.Native.Nat.{ℕ, zero, suc, _-_, _*_, _/_, _≤_, _<_}
 use mathlib.Core.Path.{_≡_}
 use native.Mathlib.Omega.{arith}

@@ -1,5 +1,5 @@
--- How the weight of what stands from a coordinate on comes from that of what stands after it, for a nonzero coordinate; and that none of its
--- numbers is large, within lengths to 16 and radii to 32. Assumes nothing.
+-- How the weight of what stands from a coordinate on comes from that of what stands after it, for a nonzero
+-- coordinate; and that none of its numbers is large, within lengths to 16 and radii to 32.
 use Prim.Native.Nat.{ℕ, zero, suc, _+_, _-_, _*_, _^_, _≤_, _<_}
 use mathlib.Core.Path.{_≡_, refl, sym, _∙_}
 use mathlib.Core.List.{List, [], _∷_}

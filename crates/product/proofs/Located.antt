@@ -1,5 +1,5 @@
--- The components of the point of an index, from the index's position in its range: below their counts, so that the point can be written from them.
--- Assumes nothing.
+-- The components of the point of an index, from the index's position in its range: below their counts, so that the
+-- point can be written from them.
 use Prim.Native.Nat.{ℕ, zero, suc, _-_, _/_, _%_, _^_, _≤_, _<_}
 use mathlib.Core.Path.{_≡_, refl, ap, _∙_}
 use native.Mathlib.Omega.{arith}

@@ -1,5 +1,5 @@
--- The index of a point by its weight, as the code sums it up: no sum on the way is larger than the index, which is below N and so below 2^32.
--- Assumes nothing.
+-- The index of a point by its weight, as the code sums it up: no sum on the way is larger than the index, which is
+-- below N and so below 2^32.
 use Prim.Native.Nat.{ℕ, zero, suc, _+_, _-_, _*_, _^_, _≤_, _<_}
 use mathlib.Core.Path.{_≡_, refl, sym, _∙_}
 use mathlib.Core.List.{List}

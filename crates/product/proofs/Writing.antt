@@ -1,5 +1,5 @@
--- One coordinate of a point that is written from its components: zero, or the next of the shape; and what is left can be written from again.
--- Assumes nothing.
+-- One coordinate of a point that is written from its components: zero, or the next of the shape; and what is left
+-- can be written from again.
 use Prim.Native.Nat.{ℕ, suc, _+_, _-_, _≤_, _<_}
 use mathlib.Core.Path.{_≡_, sym, ap, _∙_}
 use mathlib.Core.List.{List, _∷_, _++_, append-assoc, append-nil}

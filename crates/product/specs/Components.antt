@@ -1,4 +1,4 @@
--- The components that a point is written from, and what is asked of them. Assumes nothing.
+-- The components that a point is written from, and what is asked of them.
 use Prim.Native.Nat.{ℕ, _≤_, _<_}
 use mathlib.Core.Path.{_≡_}
 use mathlib.Core.List.{List}

@@ -1,4 +1,4 @@
--- The coordinate that is taken from the components of a point, where it is nonzero, and the components that are left. Assumes nothing.
+-- The coordinate that is taken from the components of a point, where it is nonzero, and the components that are left.
 use Prim.Native.Nat.{ℕ, suc, _-_, _≤_, _<_}
 use mathlib.Core.Path.{_≡_}
 use lib.Dec.{eqb}

@@ -1,5 +1,6 @@
--- The weight that the code gathers from the last coordinate of a point to its first, and the index that it makes up. The shape counts by what comes
--- after it, which takes one count a coordinate where the offset of document 01 is a difference of two. Assumes nothing.
+-- The weight that the code gathers from the last coordinate of a point to its first, and the index that it makes
+-- up. The shape counts by what comes after it, which takes one count a coordinate where the offset of the rules is
+-- a difference of two.
 use Prim.Native.Nat.{ℕ, suc, _+_, _-_, _*_, _^_, _≤_, _<_}
 use mathlib.Core.Path.{_≡_}
 use mathlib.Core.List.{List, [], _∷_}
@@ -11,8 +12,9 @@ use Rattle.enumeration.specs.Point.{sumOf, radiusOf, patternIn, nonzerosIn, sha
 use Rattle.enumeration.specs.Product.{patternIndex, signBit, signIndex, indexFrom}
 use Rattle.product.specs.declared.inner.weigh.Weight.{Weight}
 
--- How many shapes of as many magnitudes and the same sum come after one: those with a larger first magnitude, of which there are as many as shapes
--- whose sum is less by that magnitude, and those with the same one and a rest that comes after its rest.
+-- How many shapes of as many magnitudes and the same sum come after one: those with a larger first magnitude, of
+-- which there are as many as shapes whose sum is less by that magnitude, and those with the same one and a rest
+-- that comes after its rest.
 unfoldable pub shapesAfter : List ℕ → ℕ
 shapesAfter [] = 0
 shapesAfter (i ∷ is) = S (suc (length is)) (sumOf is) + shapesAfter is
@@ -43,7 +45,8 @@ extended behind i negative left =
       sign = signBit negative * B (behind .s) + behind .sign;
     }
 
--- what is asked for that: no nonzero coordinate has no weight, and within lengths to 16 and radii to 32 none of the sums is large
+-- what is asked for that: no nonzero coordinate has no weight, and within lengths to 16 and radii to 32 none of the
+-- sums is large
 pub record Room (behind : Weight) (i : ℕ) (negative : Bool) (left : ℕ) : Type 0 where
   pub none-behind : behind .s ≡ 0 → behind ≡ nothing
   pub some-behind : (behind .s ≡ 0 → ⊥) → 0 < behind .k
@@ -60,7 +63,7 @@ pub record Summable (w : Weight) (start shapes signs : ℕ) : Type 0 where
   pub block-to : w .pattern * shapes + (shapes - 1 - w .after) ≤ 2 ^ 32
   pub index-to : start + (w .pattern * shapes + (shapes - 1 - w .after)) * signs + w .sign ≤ 2 ^ 32
 
--- the index that a weight makes up in a shell (document 01, "Index =")
+-- the index that a weight makes up in a shell (docs/RULES.md, "Index =")
 abbrev pub weighed : ℕ → ℕ → Weight → ℕ
 weighed l k w = indexFrom (w .s) l k (w .pattern) (S (w .s) k - 1 - w .after) (w .sign)
 

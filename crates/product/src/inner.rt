@@ -1,4 +1,4 @@
-// What the product enumeration is made of. These are no calls: what they require, each caller is proved to meet.
+// What the product enumeration is made of.
 pub mod components;
 pub mod range;
 pub mod read;

@@ -1,4 +1,4 @@
--- Two answers that the contract of quantize allows are equal. Assumes nothing.
+-- Two answers that the contract of quantize allows are equal.
 use Prim.Native.Nat.{ℕ}
 use mathlib.Core.Path.{_≡_, refl}
 use mathlib.Core.List.{List}

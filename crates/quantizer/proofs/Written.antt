@@ -1,5 +1,6 @@
--- The record that quantize writes: its radius number is one of the row, its point is on the shell of that radius, its codeword is the index of the
--- point and below the total, and each field fits its bytes, so that the record holds what was put into it. Assumes nothing.
+-- The record that quantize writes: its radius number is one of the row, its point is on the shell of that radius,
+-- its codeword is the index of the point and below the total, and each field fits its bytes, so that the record
+-- holds what was put into it.
 use Prim.Native.Nat.{ℕ, _<_}
 use mathlib.Core.Path.{_≡_}
 use mathlib.Core.List.{List}

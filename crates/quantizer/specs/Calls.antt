@@ -1,5 +1,6 @@
--- What the call quantize says, and what it leaves in the lent record: document 01, "Quantizing into a record", "Refusal numbers" and "Order of
--- checks". t is the table's bytes, p the place, xs the coefficients; all of them any. `row` is the bytes of the place's row. Assumes nothing.
+-- What the call quantize says, and what it leaves in the lent record: docs/RULES.md, "Quantizing into a record",
+-- "Refusal numbers" and "Order of checks". t is the table's bytes, p the place, xs the coefficients; all of them
+-- any. `row` is the bytes of the place's row.
 use Prim.Native.Nat.{ℕ}
 use mathlib.Core.List.{List, [], _∷_, _++_}
 use lib.Ieee.{Float}
@@ -14,7 +15,8 @@ use Rattle.coding.specs.Coded.{radiusNumberFor, codewordFor}
 use Rattle.quantizer.specs.declared.Quantized.{Quantized}
 use Rattle.quantizer.specs.declared.Quantized.the-variants as quantized
 
--- Quantize: 7, 8, 4, 11; first the last two, of the row: vector not l, record not 8, b being the length of the lent record; the coefficients
+-- Quantize: 7, 8, 4, 11; first the last two, of the row: vector not l, record not 8, b being the length of the lent
+-- record; the coefficients
 abbrev pub quantizeRest : List ℕ → List Float → ℕ → List Check
 quantizeRest row xs b = lengthCheck (length xs) (lengthOf row) ∷ recordCheck b ∷ usableChecks xs
 

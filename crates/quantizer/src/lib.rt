@@ -1,5 +1,5 @@
-// The call quantize (document 01, "Quantizing into a record"): one vector of coefficients into the record of a place. What it works with stands
-// in `coefficients` and `coding`.
+// The call quantize (docs/RULES.md, "Quantizing into a record"): one vector of coefficients into the record of a
+// place. What it works with stands in `coefficients` and `coding`.
 use answers::Refusal;
 use answers::Verdict;
 use coding::inner::write_record;

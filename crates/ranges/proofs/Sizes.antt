@@ -1,5 +1,5 @@
--- The counts of a range are small: within lengths to 16 and radii to 32 a pattern count and a sign count are at most 2^16 and a shape count
--- is at most 2^31, so their product fits 64 bits. Assumes nothing.
+-- The counts of a range are small: within lengths to 16 and radii to 32 a pattern count and a sign count are at
+-- most 2^16 and a shape count is at most 2^31, so their product fits 64 bits.
 use Prim.Native.Nat.{ℕ, zero, suc, _*_, _^_, _≤_, _<_}
 use native.Mathlib.Omega.{arith}
 use native.Mathlib.Nat.{le-trans, mul-le-mul, lt-of-le-of-lt}

@@ -1,4 +1,4 @@
-// The counts that the product index is made of. These are no calls: what they require, each caller is proved to meet.
+// The counts that the product index is made of.
 use counts::Length;
 use counts::Radius;
 ghost use mathlib.Core.Path.{_≡_};
@@ -62,7 +62,8 @@ pub fn most_nonzero(length: Length, radius: Radius) -> usize
     }
 }
 
-// The stored binomial. Modulo 512, which changes none of the numbers, lets the compiler see that the last arm of the table is not taken.
+// The stored binomial. Modulo 512, which changes none of the numbers, lets the compiler see that the last arm of
+// the table is not taken.
 fn binomial(n: usize, r: usize) -> u32
     requires { ⌜ (n < 32) × (r < 16) ⌝ }
     ensures { λ b. ⌜ b ≡ counted.binomial n r ⌝ }
@@ -111,7 +112,8 @@ pub fn range_start(s: usize, length: Length, radius: Radius) -> u64
     start
 }
 
-// N(l,k) from where its last range ends. Radius 0 has no range from 1 on, and the one point; the length is what the contract speaks of.
+// N(l,k) from where its last range ends. Radius 0 has no range from 1 on, and the one point; the length is what the
+// contract speaks of.
 pub fn total(length: Length, radius: Radius, end: u64) -> u64
     requires { ⌜ end ≡ O 0 (length .0) (radius .0) ⌝ }
     ensures { λ r. ⌜ r ≡ N (length .0) (radius .0) ⌝ }

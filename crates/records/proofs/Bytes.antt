@@ -1,4 +1,4 @@
--- Bytes stored one after the other into a buffer of as many are all that it holds. Assumes nothing.
+-- Bytes stored one after the other into a buffer of as many are all that it holds.
 use Prim.Native.Nat.{ℕ, _/_, _%_}
 use mathlib.Core.Path.{_≡_, refl, sym, ap, _∙_}
 use mathlib.Core.List.{List, [], _∷_, _++_, append-nil}

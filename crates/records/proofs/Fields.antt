@@ -1,4 +1,4 @@
--- A record holds the fields that it was made of, if they fit their bytes. Assumes nothing.
+-- A record holds the fields that it was made of, if they fit their bytes.
 use Prim.Native.Nat.{ℕ}
 use Rattle.octets.proofs.Back.{fits-back}
 use Rattle.records.specs.Record.{recordOf, Holds, Fits}

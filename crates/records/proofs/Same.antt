@@ -1,4 +1,4 @@
--- The same bytes, compared one by one. Assumes nothing.
+-- The same bytes, compared one by one.
 --     same-next, same-stops, same-ends               what is left decides as long as the bytes are the same
 --     same-bytes, bytes-same, differ-bytes, bytes-differ     the test tells whether the lists are equal
 use Prim.Native.Nat.{ℕ, _+_, _≤_, _<_}

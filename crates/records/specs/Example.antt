@@ -1,5 +1,5 @@
--- A record in which every byte differs from the others, written and read: another order of the fields, or another size of one, disagrees.
--- proofs/Example.antt computes every line. Assumes nothing.
+-- A record in which every byte differs from the others, written and read: another order of the fields, or another
+-- size of one, disagrees. proofs/Example.antt computes every line.
 use Prim.Native.Nat.{ℕ}
 use mathlib.Core.Path.{_≡_}
 use mathlib.Core.List.{List, [], _∷_, _++_}

@@ -1,5 +1,5 @@
--- A record (document 01, "Quantizing into a record"): 8 bytes, place (2), row (1), radius number within the row (1), codeword (4), high byte
--- first. Assumes nothing.
+-- A record (docs/RULES.md, "Quantizing into a record"): 8 bytes, place (2), row (1), radius number within the row
+-- (1), codeword (4), high byte first.
 use Prim.Native.Nat.{ℕ, _^_, _<_}
 use mathlib.Core.Path.{_≡_}
 use mathlib.Core.List.{List, [], _∷_, _++_}

@@ -1,4 +1,4 @@
--- The lines of places, one after the other: one more, and two blocks that make one. Assumes nothing.
+-- The lines of places, one after the other: one more, and two blocks that make one.
 use Prim.Native.Nat.{ℕ, zero, suc, _+_, _-_, _*_, _≤_}
 use mathlib.Core.List.{List, [], _++_, append-nil, append-assoc}
 use mathlib.Core.Path.{_≡_, refl}

@@ -1,4 +1,5 @@
--- What the calls of the report say and leave, a block of lines or one line: the room is checked first, and the text begins the buffer. Assumes nothing.
+-- What the calls of the report say and leave, a block of lines or one line: the room is checked first, and the text
+-- begins the buffer.
 use Prim.Native.Nat.{ℕ, _+_, _-_, _*_, _/_, _≤_, _<_, min}
 use mathlib.Core.List.{List, [], _∷_}
 use mathlib.Core.Path.{_≡_, refl, sym, _∙_}
@@ -22,8 +23,8 @@ use Rattle.report.specs.Bounds.{HasRoom, Listable}
 use Rattle.report.specs.Calls.{startingWith, lineSpace, noRoom, linesFit, linesRest, linesText, linesAnswer, lineSays, lineLeaves}
 use Rattle.report.specs.Listing.{linesFrom}
 
--- `cs` are the checks of a call, and `text` is what it writes into a buffer that held `held`: what is said, what is left of the buffer, and how many
--- bytes of it were written
+-- `cs` are the checks of a call, and `text` is what it writes into a buffer that held `held`: what is said, what is
+-- left of the buffer, and how many bytes of it were written
 abbrev pub Says : List Check → List ℕ → List ℕ → List ℕ → List ℕ → List ℕ → ℕ → Type 0
 Says cs answer text held said left size =
     (said ≡ firstOf cs answer) × ((left ≡ leaves cs (startingWith text held) held) × (size ≤ length left))

@@ -1,4 +1,4 @@
--- Two answers that the contract of a call of the report allows are equal: answers that say the same are the same. Assumes nothing.
+-- Two answers that the contract of a call of the report allows are equal: answers that say the same are the same.
 use Prim.Native.Nat.{ℕ}
 use mathlib.Core.List.{List}
 use mathlib.Core.Path.{_≡_, refl}

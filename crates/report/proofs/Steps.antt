@@ -1,4 +1,4 @@
--- The steps of the listing program make the listing, for any table. Assumes nothing.
+-- The steps of the listing program make the listing, for any table.
 use Prim.Native.Nat.{ℕ, _+_, _≤_, _<_}
 use mathlib.Core.List.{List, [], _∷_, _++_}
 use mathlib.Core.Logic.{⊎-elim}

@@ -1,4 +1,4 @@
--- What the functions of a block of lines ask. Assumes nothing.
+-- What the functions of a block of lines ask.
 use Prim.Native.Nat.{ℕ, _-_, _*_, _≤_}
 use mathlib.Core.List.{List}
 use mathlib.Core.Path.{_≡_}

@@ -1,6 +1,6 @@
--- What the calls of the report say, and what they leave in the lent buffer. A refusal is given as document 01 gives it ("Refusal numbers"), the checks
--- in the order in which reading a place has them. t is the table's bytes, pg the page's, p the place from which lines are asked
--- for, held what the lent buffer held; all of them any. Assumes nothing.
+-- What the calls of the report say, and what they leave in the lent buffer. A refusal is given as in docs/RULES.md,
+-- "Refusal numbers", the checks in the order in which reading a place has them. t is the table's bytes, pg the
+-- page's, p the place from which lines are asked for, held what the lent buffer held; all of them any.
 use Prim.Native.Nat.{ℕ, _+_, _-_, _/_, min}
 use mathlib.Core.List.{List, [], _∷_, _++_}
 use lib.Dec.{ltb}

@@ -1,5 +1,5 @@
--- The listing of document 01's whole case, and of single files beside it; and what the calls of the report say and leave, with buffers of nines.
--- proofs/Example.antt computes every line. Assumes nothing.
+-- The listing of the whole case (docs/RULES.md, "Worked cases"), and of single files beside it; and what the calls
+-- of the report say and leave, with buffers of nines. proofs/Example.antt computes every line.
 use Prim.Native.Nat.{ℕ}
 use mathlib.Core.Path.{_≡_}
 use mathlib.Core.List.{List, [], _∷_, _++_}
@@ -14,7 +14,7 @@ abbrev pub nines : ℕ → List ℕ
 nines n = replicate n 9
 
 pub record Example : Type 0 where
-  -- as the document prints it
+  -- as the rules print it
   pub whole-case : listing wholeCase (first ++ second) ≡ ascii "0 sound 0 1 0 -1\n1 mended 0 0 -1 1\ntally 1 1 0 0 0 0\n"
   -- no records at all
   pub no-records : listing wholeCase [] ≡ ascii "0 missing 0 0 0 0\n1 missing 0 0 0 0\ntally 0 0 2 0 0 0\n"
@@ -24,7 +24,8 @@ pub record Example : Type 0 where
   -- a bad table, and none
   pub bad-table : listing (wholeCase ++ (1 ∷ [])) first ≡ ascii "refused 7\n"
   pub no-table : listing [] first ≡ ascii "refused 7\n"
-  -- the lines of a page, from a place on, as many as there is room for, 256 bytes each: where to go on, and how many bytes they are
+  -- the lines of a page, from a place on, as many as there is room for, 256 bytes each: where to go on, and how
+  -- many bytes they are
   pub two-lines : linesSays wholeCase page 0 (nines 512) ≡ 0 ∷ 2 ∷ 35 ∷ []
   pub one-line : linesSays wholeCase page 0 (nines 511) ≡ 0 ∷ 1 ∷ 17 ∷ []
   pub last-place : linesSays wholeCase page 1 (nines 512) ≡ 0 ∷ 2 ∷ 18 ∷ []

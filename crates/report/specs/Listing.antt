@@ -1,5 +1,5 @@
--- The listing of a page (document 01, "Listing program"). t is the bytes of `pairing.bin`, pg those of a page; `row` is the bytes of a row, r its number.
--- Assumes nothing.
+-- The listing of a page (docs/RULES.md, "Listing program"). t is the bytes of `pairing.bin`, pg those of a page;
+-- `row` is the bytes of a row, r its number.
 use Prim.Native.Nat.{ℕ, zero, suc}
 use mathlib.Core.List.{List, [], _∷_, _++_}
 use Rattle.answers.specs.Checks.{anyOf, pick, failsOf}
@@ -11,7 +11,8 @@ use Rattle.rules.specs.Tallying.{tallyOf}
 use Rattle.rules.specs.declared.Judged.{Judged}
 use Rattle.text.specs.Text.{placeText, lastText, refusedText}
 
--- "a line a place: place, answer word, reason (0 where none), coordinates", for place p with the answer j; a place without a point has zeros
+-- "place, answer, reason (0 where there is none), then the l coordinates", for place p with the answer j; a place
+-- without a point has zeros
 abbrev pub lineOf : List ℕ → ℕ → Judged → List ℕ
 lineOf row p j = placeText p (answerNumber j) (reasonOf j) (shown row j)
 
@@ -28,7 +29,7 @@ unfoldable pub linesFrom : List ℕ → List ℕ → ℕ → ℕ → List ℕ
 linesFrom t pg p zero = []
 linesFrom t pg p (suc n) = lineAt t pg p ++ linesFrom t pg (suc p) n
 
--- "Last line: `tally`, the five counts, and the number of refused takes"
+-- the last line: "`tally`, the five counts of the tally, the number of refused takes"
 abbrev pub lastLine : List ℕ → ℕ → List ℕ
 lastLine counts refused = lastText (counts ++ (refused ∷ []))
 
@@ -36,7 +37,7 @@ lastLine counts refused = lastText (counts ++ (refused ∷ []))
 abbrev pub listed : List ℕ → Received → List ℕ
 listed t s = linesFrom t (s .page) 0 (placesIn t) ++ lastLine (tallyOf t (s .page)) (s .refused)
 
--- what the program prints, given the bytes of `records.bin`: "A bad table prints only `refused 7`"; otherwise each 8 bytes are taken in turn into an
--- empty page, and a shorter last part too
+-- what the program prints, given the bytes of `records.bin`: "A bad table prints `refused 7` and nothing else";
+-- otherwise each 8 bytes are taken in turn into an empty page, and a shorter last part too
 abbrev pub listing : List ℕ → List ℕ → List ℕ
 listing t bytes = pick (anyOf (failsOf (tableChecks t))) (refusedText 7) (listed t (collected t (emptyPage (placesIn t)) bytes))

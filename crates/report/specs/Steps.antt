@@ -1,6 +1,6 @@
--- The steps of the listing program, and the listing that they make. What a program reads and writes can stand in no contract, so it is said here: records
--- come in blocks, lines go out in blocks, and the calls' answers make the text that `listing` is, for any bytes t of a table.
--- Assumes nothing.
+-- The steps of the listing program, and the listing that they make. What a program reads and writes can stand in no
+-- contract, so it is said here: records come in blocks, lines go out in blocks, and the calls' answers make the
+-- text that `listing` is, for any bytes t of a table.
 use Prim.Native.Nat.{ℕ, _+_, _*_, _≤_, _<_}
 use mathlib.Core.List.{List, _∷_, _++_}
 use mathlib.Core.Path.{_≡_}
@@ -20,7 +20,8 @@ pub record Steps (t : List ℕ) : Type 0 where
   pub bad-table : (bytes : List ℕ) (r : Refusal) → meaning r ≡ checkSays t → refusedText (numberOf r) ≡ listing t bytes
   -- a table file may be too long: as many bytes as there is room for give the listing of all of them
   pub enough-read : (bytes : List ℕ) → listing (take tableRoom t) bytes ≡ listing t bytes
-  -- records in two blocks, the first of whole records: the page and the refused takes of both are those of all the bytes
+  -- records in two blocks, the first of whole records: the page and the refused takes of both are those of all the
+  -- bytes
   pub in-blocks : (pg xs ys : List ℕ) (n : ℕ) → length xs ≡ 8 * n → collected t pg (xs ++ ys) ≡ record {
     page = collected t (collected t pg xs .page) ys .page;
     refused = collected t pg xs .refused + collected t (collected t pg xs .page) ys .refused;
@@ -34,7 +35,8 @@ pub record Steps (t : List ℕ) : Type 0 where
   pub tallied : Good t → (xs : List (List ℕ)) → tallySays t (grown t xs) ≡ 0 ∷ tallyOf t (grown t xs)
   -- what is printed, the first bytes of the buffer, as many as the answer says, is the text
   pub printed : (text held : List ℕ) → take (length text) (startingWith text held) ≡ text
-  -- a block of lines has one line at the least and ends with the last place at the most, and goes on where the lines before it ended
+  -- a block of lines has one line at the least and ends with the last place at the most, and goes on where the
+  -- lines before it ended
   pub goes-on : (p b : ℕ) → p < placesIn t → lineSpace ≤ b → (p < p + linesFit t p b) × (p + linesFit t p b ≤ placesIn t)
   pub one-block-more : (pg : List ℕ) (p b : ℕ) → linesFrom t pg 0 p ++ linesText t pg p b ≡ linesFrom t pg 0 (p + linesFit t p b)
   -- all places and the last line are the listing

@@ -1,2 +1,2 @@
-// What the call lines is made of. These are no calls: what they require, each caller is proved to meet.
+// What the call lines is made of.
 pub mod block;

@@ -1,5 +1,5 @@
-// The calls of the report (document 01, "Listing program"): the lines of places, the last line, and the line of a refusal, each into a lent buffer. What
-// they are made of stands in `inner`; the text itself, in `text`.
+// The calls of the report (docs/RULES.md, "Listing program"): the lines of places, the last line, and the line of a
+// refusal, each into a lent buffer. What they are made of stands in `inner`; the text itself, in `text`.
 pub mod inner;
 
 use answers::Refusal;
@@ -31,7 +31,8 @@ pub enum Lined {
     Refused(Refusal),
 }
 
-// The call lines: those of the places from `from` on, as many as there are or as the buffer has room for, 256 bytes each.
+// The call lines: those of the places from `from` on, as many as there are or as the buffer has room for, 256 bytes
+// each.
 pub fn lines(table: &[u8], page: &[u8], from: usize, out: &mut [u8]) -> Listed
     ensures { λ r. ⌜ (listedMeaning r ≡ linesSays (now (table .entry)) (now (page .entry)) from (now (out .entry)))
         × (now (out .exit) ≡ linesLeaves (now (table .entry)) (now (page .entry)) from (now (out .entry)))

@@ -1,3 +1,3 @@
-// The fields of a row, and whether it is bad by itself. These are no calls: what they require, each caller is proved to meet.
+// The fields of a row, and whether it is bad by itself.
 pub mod fault;
 pub mod row;

@@ -1,5 +1,5 @@
--- Arrivals in any order: one take changes no cell but the one that its record claims, keeps the length of the page, and decides of no other take
--- whether it is refused; so two takes may change places, on any table and any page. Assumes nothing.
+-- Arrivals in any order: one take changes no cell but the one that its record claims, keeps the length of the page,
+-- and decides of no other take whether it is refused; so two takes may change places, on any table and any page.
 use Prim.Native.Nat.{ℕ, _<_}
 use mathlib.Core.Path.{_≡_, refl, sym, ap, _∙_}
 use mathlib.Core.List.{List}

@@ -1,5 +1,5 @@
--- A run of bytes taken in blocks: whole records first and then the rest give what all of it gives at once, and no more takes are refused than there
--- are parts. Assumes nothing.
+-- A run of bytes taken in blocks: whole records first and then the rest give what all of it gives at once, and no
+-- more takes are refused than there are parts.
 use Prim.Native.Nat.{ℕ, zero, suc, _+_, _*_, _/_, _≤_}
 use mathlib.Core.Bool.{Bool, true, false}
 use mathlib.Core.List.{List, [], _∷_, _++_}

@@ -1,5 +1,6 @@
--- A cell after any list of arrivals: it goes by those that claim its place, and by nothing else. Where nobody claims it, it is as it was; where all
--- that claim it are equal, an empty cell holds that record; where two differ, it is contested. Assumes nothing.
+-- A cell after any list of arrivals: it goes by those that claim its place, and by nothing else. Where nobody
+-- claims it, it is as it was; where all that claim it are equal, an empty cell holds that record; where two differ,
+-- it is contested.
 use Prim.Native.Nat.{ℕ, _<_}
 use mathlib.Core.Path.{_≡_, refl, sym, ap, _∙_}
 use mathlib.Core.List.{List, [], _∷_, List·Memᴰ, List·Memᴰ·head, List·Memᴰ·tail, List·Memᴰ·cases-cons, List·Memᴰ·not-nil}

@@ -1,5 +1,5 @@
--- The page rule on one cell: two records that name its place may come in either order, whatever stands in it. Refusal 12 keeps the cell, and a cell
--- that is not refused is not refused afterwards. Assumes nothing.
+-- The page rule on one cell: two records that name its place may come in either order, whatever stands in it.
+-- Refusal 12 keeps the cell, and a cell that is not refused is not refused afterwards.
 use Prim.Native.Nat.{ℕ, zero, suc}
 use mathlib.Core.Path.{_≡_, refl, ap, sym, _∙_}
 use mathlib.Core.List.{List, [], _∷_}

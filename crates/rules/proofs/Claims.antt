@@ -1,5 +1,6 @@
--- What claims: a record of 8 bytes that names a place of the table claims that place and no other; anything else claims none and is refused. And
--- what one take makes of the page, by that: the cell that is claimed goes by the page rule, and every other cell is as it was. Assumes nothing.
+-- What claims: a record of 8 bytes that names a place of the table claims that place and no other; anything else
+-- claims none and is refused. And what one take makes of the page, by that: the cell that is claimed goes by the
+-- page rule, and every other cell is as it was.
 use Prim.Native.Nat.{ℕ, _<_}
 use mathlib.Core.Path.{_≡_, refl, sym, ap, _∙_}
 use mathlib.Core.List.{List}

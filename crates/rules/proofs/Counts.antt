@@ -1,4 +1,5 @@
--- The tally's five counts: they sum to the number of places, and one place more adds 1 to the count of its answer alone. Assumes nothing.
+-- The tally's five counts: they sum to the number of places, and one place more adds 1 to the count of its answer
+-- alone.
 use Prim.Native.Nat.{ℕ, zero, suc, _≤_, _<_}
 use mathlib.Core.Path.{_≡_, refl, sym, ap, _∙_}
 use mathlib.Core.List.{List, [], _∷_}
@@ -63,6 +64,6 @@ module _ (f : ℕ → ℕ) where
   counts-sum (suc n) below =
       ap sumOf (sym (counts-next n (f n) refl (below n))) ∙ one-more (countsOf f n) (f n) (below n) ∙ ap suc (counts-sum n below)
 
--- document 01's five answers share out the places among them
+-- the five answers share out the places among them
 pub tally-sum : (t pg : List ℕ) → sumOf (tallyOf t pg) ≡ placesIn t
 tally-sum t pg = counts-sum (answerAt t pg) (placesIn t) (λ p. five-answers (judgeAt t pg p))

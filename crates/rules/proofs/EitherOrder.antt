@@ -1,4 +1,4 @@
--- Two arrivals, in either order, on any table and any page: the page and the number of refused takes are the same. Assumes nothing.
+-- Two arrivals, in either order, on any table and any page: the page and the number of refused takes are the same.
 use Prim.Native.Nat.{ℕ}
 use mathlib.Core.Path.{_≡_, refl, ap₂}
 use mathlib.Core.List.{List}

@@ -1,4 +1,5 @@
--- A page that grew from an empty one: no arrival changes whether a cell is refused, so refusal 12 is never given there. Assumes nothing.
+-- A page that grew from an empty one: no arrival changes whether a cell is refused, so refusal 12 is never given
+-- there.
 use Prim.Native.Nat.{ℕ, _<_}
 use mathlib.Core.Path.{_≡_, refl, ap, _∙_}
 use mathlib.Core.List.{List, [], _∷_}

@@ -1,4 +1,4 @@
--- A table and a page that take records: what the checks of both tell where they pass, and the other way round. Assumes nothing.
+-- A table and a page that take records: what the checks of both tell where they pass, and the other way round.
 use Prim.Native.Nat.{ℕ, _<_}
 use mathlib.Core.Bool.{Bool, true, false}
 use mathlib.Core.List.{List, [], _∷_}

@@ -1,5 +1,5 @@
--- A run of bytes, part by part: eight bytes are taken, and what is left is a run again. Where every take is refused, as many are refused as there are
--- parts, and the page is as it was. Assumes nothing.
+-- A run of bytes, part by part: eight bytes are taken, and what is left is a run again. Where every take is
+-- refused, as many are refused as there are parts, and the page is as it was.
 use Prim.Native.Nat.{ℕ, zero, suc, _+_, _-_, _/_, _<_}
 use mathlib.Core.Path.{_≡_, refl, sym, ap, ap₂, _∙_}
 use mathlib.Core.List.{List, [], _∷_}

@@ -1,4 +1,5 @@
--- A place that shows a point: its index, mended or not, names a point of a usable shell of the row, for any lawful enumeration. Assumes nothing.
+-- A place that shows a point: its index, mended or not, names a point of a usable shell of the row, for any lawful
+-- enumeration.
 use Prim.Native.Nat.{ℕ, zero, suc, _+_, _-_, _^_, _≤_, _<_}
 use mathlib.Core.Path.{_≡_, refl, ap}
 use mathlib.Core.List.{List, _∷_}

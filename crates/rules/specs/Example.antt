@@ -1,6 +1,6 @@
--- Document 01's whole case, taken, read and tallied by the definitions, and single cells of its table: length 3, radii 0 and 2, so that N is 18 and
--- b is 5. Pages are written out byte for byte, a state and a record for each place, and so is what is said. proofs/Example.antt computes every line.
--- Assumes nothing.
+-- The whole case (docs/RULES.md, "Worked cases"), taken, read and tallied by the definitions, and single cells of
+-- its table: length 3, radii 0 and 2, so that N is 18 and b is 5. Pages are written out byte for byte, a state and
+-- a record for each place, and so is what is said. proofs/Example.antt computes every line.
 use Prim.Native.Nat.{ℕ}
 use mathlib.Core.Path.{_≡_}
 use mathlib.Core.List.{List, [], _∷_, _++_, map}
@@ -139,7 +139,8 @@ pub record Example : Type 0 where
   pub reason-9 : judge wholeCase 0 (held (of 0 1 2 99)) ≡ judged.Unreadable 9
   pub reason-9-below : judge fullRow 1 (held (of 2 0 1 5)) ≡ judged.Unreadable 9
   pub reason-10 : judge wholeCase 0 (held (of 0 0 2 99)) ≡ judged.Unreadable 10
-  -- ---- one coefficient: 1.0, 0.0 and -1.0; with a step of 775 over 256 the mended ones are 0.0, -3.02734375 and 3.02734375
+  -- ---- one coefficient: 1.0, 0.0 and -1.0; with a step of 775 over 256 the mended ones are 0.0, -3.02734375 and
+  -- 3.02734375
   pub coefficient-sound : coefficientSays wholeCase page 0 0 ≡ 0 ∷ 0 ∷ 0 ∷ []
   pub values-0 : map (toBits binary32) (coefficientCarries wholeCase page 0 0) ≡ 1065353216 ∷ []
   pub values-1 : map (toBits binary32) (coefficientCarries wholeCase page 0 1) ≡ 0 ∷ []
@@ -166,7 +167,8 @@ pub record Example : Type 0 where
   pub take-4-page-long : takeSays wholeCase (page ++ 0 ∷ []) first ≡ 4 ∷ []
   pub take-8 : takeSays wholeCase page (of 2 0 1 5) ≡ 8 ∷ []
   pub take-8-high : takeSays wholeCase page (1 ∷ drop 1 first) ≡ 8 ∷ []
-  -- 12 at the record's own place: a held record of a higher and of a lower place, one whose place differs in the high byte, and a state above 2
+  -- 12 at the record's own place: a held record of a higher and of a lower place, one whose place differs in the
+  -- high byte, and a state above 2
   pub take-12-higher : takeSays wholeCase second-twice first ≡ 12 ∷ []
   pub take-12-lower : takeSays wholeCase first-twice second ≡ 12 ∷ []
   pub take-12-high : takeSays wholeCase (1 ∷ 1 ∷ drop 1 first ++ 1 ∷ second) first ≡ 12 ∷ []

@@ -1,5 +1,5 @@
--- The answer of a place (document 01, "The page": "Reading a place"). One definition, `judge`, gives the answer of a cell; the readers and the
--- tally are that definition. `row` is the bytes of a row, r its number, c a cell. Assumes nothing.
+-- The answer of a place (docs/RULES.md, "The page": "Reading a place"). One definition, `judge`, gives the answer
+-- of a cell; the readers and the tally are that definition. `row` is the bytes of a row, r its number, c a cell.
 use Prim.Native.Nat.{ℕ, _-_, _^_, _<_}
 use mathlib.Core.List.{List}
 use mathlib.Core.Path.{_≡_}
@@ -18,7 +18,8 @@ use Rattle.rules.specs.Taking.{byState}
 use Rattle.rules.specs.declared.Judged.{Judged}
 use Rattle.rules.specs.declared.Judged.the-variants as judged
 
--- codeword 2^b or more: unreadable 14; below N: sound; otherwise mended, and 2^(b-1) is subtracted. N is any total, k the radius.
+-- codeword 2^b or more: unreadable 14; below N: sound; otherwise mended, and 2^(b-1) is subtracted. N is any total,
+-- k the radius.
 unfoldable pub judgeCodeword : ℕ → ℕ → ℕ → Judged
 judgeCodeword total k n =
     pick (leb (2 ^ width total) n) (judged.Unreadable 14)

@@ -1,5 +1,6 @@
--- What the calls read and coefficient say, and what read leaves in the lent buffer (document 01, "The page", "Refusal numbers" and "Order of
--- checks"). t is the table's bytes, pg the page's, p the place, i the coordinate; all of them any. `row` is the bytes of a row. Assumes nothing.
+-- What the calls read and coefficient say, and what read leaves in the lent buffer (docs/RULES.md, "The page",
+-- "Refusal numbers" and "Order of checks"). t is the table's bytes, pg the page's, p the place, i the coordinate;
+-- all of them any. `row` is the bytes of a row.
 use Prim.Native.Nat.{ℕ}
 use mathlib.Core.List.{List, [], _∷_, _++_}
 use lib.Dec.{leb}

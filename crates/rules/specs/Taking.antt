@@ -1,5 +1,6 @@
--- Taking records into a page (document 01, "The page", "Refusal numbers" and "Order of checks"). t is the table's bytes, pg the page's, x those of
--- a record or of what arrived for one; all of them any, of any length. c is a cell. Assumes nothing.
+-- Taking records into a page (docs/RULES.md, "The page", "Refusal numbers" and "Order of checks"). t is the table's
+-- bytes, pg the page's, x those of a record or of what arrived for one; all of them any, of any length. c is a
+-- cell.
 use Prim.Native.Nat.{ℕ, zero, suc, _+_, _-_, _/_}
 use mathlib.Core.Path.{_≡_}
 use mathlib.Core.List.{List, [], _∷_, _++_, List·Memᴰ}
@@ -38,8 +39,8 @@ byState (suc (suc n)) empty held contested = contested
 unfoldable pub badCell : ℕ → Cell → Bool
 badCell p c = anyOf (ltb 2 (c .state) ∷ (eqb (c .state) 1 && not (namesPlace (c .bytes) p)) ∷ [])
 
--- the page rule: empty becomes held, with the 8 bytes; held with the same 8 bytes stays; held with other bytes becomes contested, its 8 bytes zero;
--- contested stays
+-- the page rule: empty becomes held, with the 8 bytes; held with the same 8 bytes stays; held with other bytes
+-- becomes contested, its 8 bytes zero; contested stays
 unfoldable pub takeCell : List ℕ → Cell → Cell
 takeCell x c = byState (c .state) (heldCell x) (pick (sameBytes (c .bytes) x) c contestedCell) c
 

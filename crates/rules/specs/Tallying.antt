@@ -1,5 +1,5 @@
--- The tally (document 01, "The page": "The tally counts places of each of the five answers"). t is the table's bytes, pg the page's; all of them any.
--- Assumes nothing.
+-- The tally (docs/RULES.md, "The page": "how many places have each answer"). t is the table's
+-- bytes, pg the page's; all of them any.
 use Prim.Native.Nat.{ℕ, zero, suc}
 use mathlib.Core.List.{List, [], _∷_, _++_}
 use lib.Dec.{eqb}

@@ -1,5 +1,5 @@
-// The page as definitions and laws (document 01, "The page"). No function stands here: `page` has the calls. The answer of a
-// cell, which both speak of, is declared here.
+// The page as definitions and laws (docs/RULES.md, "The page"). No function stands here: `page` has the calls. The
+// answer of a cell, which both speak of, is declared here.
 
 // What the cell of a place is judged to be: one of the five answers.
 pub enum Judged {

@@ -1,5 +1,5 @@
-// What a line of the input holds: the letter that it begins with, and numbers, decimal and of 64 bits. A number with a minus sign is taken from
-// 2^64.
+// What a line of the input holds: the letter that it begins with, and numbers, decimal and of 64 bits. A number
+// with a minus sign is taken from 2^64.
 use std::num::wrapping_add_u64;
 use std::num::wrapping_sub_u64;
 ghost use mathlib.Core.Path.{_≡_};

@@ -1,5 +1,5 @@
--- The first best of some numbers is unbeaten, and better than all before it; only one number is so. Both for the smaller and for the larger being
--- better. Assumes nothing.
+-- The first best of some numbers is unbeaten, and better than all before it; only one number is so. Both for the
+-- smaller and for the larger being better.
 use Prim.Native.Nat.{ℕ, zero, suc, _+_, _≤_, _<_}
 use mathlib.Core.Path.{_≡_, refl, sym, ap, _∙_}
 use mathlib.Core.Bool.{Bool, true, false, cond, false≢true}
@@ -9,7 +9,7 @@ use native.Mathlib.Decide.{decLt}
 use borrow.Author.Tests.{lt-ltb, le-ltb, ltb-true, ltb-false}
 use Rattle.shares.specs.Best.{firstBest, smaller, larger, IsFirstBest}
 
--- what "better" must be: never both ways, and what beats one beats all that do not beat that one
+-- what being better must be: never both ways, and what beats one beats all that do not beat that one
 pub record Order (beats : ℕ → ℕ → Bool) : Type 0 where
   pub one-way : (x y : ℕ) → beats x y ≡ true → beats y x ≡ false
   pub onward : (x y z : ℕ) → beats x y ≡ true → beats z y ≡ false → beats x z ≡ true

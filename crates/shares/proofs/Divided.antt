@@ -1,5 +1,5 @@
--- What the code may do with the whole parts and remainders of some magnitudes once they are worked out: add up the whole parts, and give what is
--- left of k. Assumes nothing.
+-- What the code may do with the whole parts and remainders of some magnitudes once they are worked out: add up the
+-- whole parts, and give what is left of k.
 use Prim.Native.Nat.{ℕ, zero, suc, _+_, _-_, _^_, _≤_, _<_}
 use mathlib.Core.Path.{_≡_, refl, sym, ap, _∙_}
 use mathlib.Core.List.{List, [], _∷_, map}

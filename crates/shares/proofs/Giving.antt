@@ -1,5 +1,5 @@
--- Units given to the largest remainders, no more of them than there are remainders: each goes to a coordinate that has one, so that the sum grows
--- by one a unit and a coordinate without a remainder stays as it is. Assumes nothing.
+-- Units given to the largest remainders, no more of them than there are remainders: each goes to a coordinate that
+-- has one, so that the sum grows by one a unit and a coordinate without a remainder stays as it is.
 use Prim.Native.Nat.{ℕ, zero, suc, _+_, _-_, _≤_, _<_}
 use mathlib.Core.Path.{_≡_, refl, sym, ap, _∙_}
 use mathlib.Core.List.{List, [], _∷_}

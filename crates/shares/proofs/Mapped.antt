@@ -1,4 +1,4 @@
--- What stands in a mapped list. Assumes nothing.
+-- What stands in a mapped list.
 use Prim.Native.Nat.{ℕ, zero, suc, _<_}
 use mathlib.Core.Path.{_≡_, refl}
 use mathlib.Core.List.{List, [], _∷_, map}

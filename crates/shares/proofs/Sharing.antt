@@ -1,5 +1,5 @@
--- The radius shared out among magnitudes that are not all 0: the shares sum to it, none is above it, and a magnitude of 0 gets nothing.
--- Assumes nothing.
+-- The radius shared out among magnitudes that are not all 0: the shares sum to it, none is above it, and a
+-- magnitude of 0 gets nothing.
 use Prim.Native.Nat.{ℕ, zero, suc, _-_, _/_, _%_, _≤_, _<_}
 use mathlib.Core.Path.{_≡_, refl, sym, ap, _∙_, subst}
 use mathlib.Core.List.{List, [], _∷_, map}

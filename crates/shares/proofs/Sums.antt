@@ -1,5 +1,5 @@
--- Whole parts and remainders of k x a / A, summed: what the whole parts leave of k is the sum of the remainders over A, and that is less than the
--- number of coordinates with a remainder. Assumes nothing.
+-- Whole parts and remainders of k x a / A, summed: what the whole parts leave of k is the sum of the remainders
+-- over A, and that is less than the number of coordinates with a remainder.
 use Prim.Native.Nat.{ℕ, zero, suc, _+_, _-_, _*_, _/_, _%_, _≤_, _<_}
 use mathlib.Core.Path.{_≡_, ap}
 use mathlib.Core.List.{List, [], _∷_, map}

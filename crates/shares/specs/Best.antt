@@ -1,5 +1,5 @@
--- The first best of some numbers: what "the least, on a tie the smaller" and "the largest, among equal the lower first" ask for. `beats x y` says
--- that x is better than y. Assumes nothing.
+-- The first best of some numbers: what docs/RULES.md asks for in "Quantizing into a record", the least and
+-- on a tie the smaller, the largest and on a tie the lower. `beats x y` says that x is better than y.
 use Prim.Native.Nat.{ℕ, zero, suc, _≤_, _<_}
 use mathlib.Core.Path.{_≡_}
 use mathlib.Core.Bool.{Bool, true, false, cond}

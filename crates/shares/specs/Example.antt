@@ -1,5 +1,5 @@
--- Radii shared out, by the definitions: a unit goes to a larger remainder though its magnitude is smaller, to the lower of two equal ones, and to none
--- where nothing is left. proofs/Example.antt computes every line. Assumes nothing.
+-- Radii shared out, by the definitions: a unit goes to a larger remainder though its magnitude is smaller, to the
+-- lower of two equal ones, and to none where nothing is left. proofs/Example.antt computes every line.
 use mathlib.Core.Path.{_≡_}
 use mathlib.Core.List.{[], _∷_}
 use Rattle.shares.specs.Shares.{wholeParts, remainders, shared}

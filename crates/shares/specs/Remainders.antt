@@ -1,6 +1,7 @@
--- Largest remainders as a property (document 01, "Quantizing into a record": "each coordinate gets the whole part of k x a_i / A, and one more goes to
--- each of the largest remainders until the sum is k; among equal remainders the lower coordinate first"). k is the radius, ms are the magnitudes a_i,
--- `shares` what the coordinates get. proofs/Remainders.antt shows that `shared` has the property, and that nothing else has it. Assumes nothing.
+-- Largest remainders as a property (docs/RULES.md, "Quantizing into a record": what is missing to the sum k is
+-- given "to the coordinates with the largest remainders", "and among equal remainders to the lower coordinate"). k
+-- is the radius, ms are the magnitudes a_i, `shares` what the coordinates get. proofs/Remainders.antt shows that
+-- `shared` has the property, and that nothing else has it.
 use Prim.Native.Nat.{ℕ, suc, _<_}
 use mathlib.Core.Path.{_≡_}
 use mathlib.Core.List.{List}

@@ -1,5 +1,5 @@
--- A radius k shared out among magnitudes a_i whose sum is A, by largest remainders (document 01, "Quantizing into a record"; 002, section 7).
--- Assumes nothing.
+-- A radius k shared out among magnitudes a_i whose sum is A, by largest remainders (docs/RULES.md, "Quantizing into
+-- a record"; the paper, section 7).
 use Prim.Native.Nat.{ℕ, zero, suc, _-_, _*_, _/_, _%_, _^_, _≤_, _<_}
 use mathlib.Core.Path.{_≡_}
 use mathlib.Core.List.{List, [], _∷_, map}
@@ -30,7 +30,8 @@ withRemainder (suc rest ∷ rests) = suc (withRemainder rests)
 unfoldable pub largest : List ℕ → ℕ
 largest rests = firstBest larger (λ (i : ℕ). getD rests i 0) (length rests - 1)
 
--- one more to each of the n largest remainders: the largest that is left, as often as needed; a remainder that has got its unit is spent
+-- one more to each of the n largest remainders: the largest that is left, as often as needed; a remainder that has
+-- got its unit is spent
 abbrev pub spent : List ℕ → List ℕ
 spent rests = set rests (largest rests) 0
 

@@ -70,8 +70,8 @@ fn give(units: usize, rests: &mut [u32], shares: &mut [u32])
     }
 }
 
-// The magnitudes of the point of a radius above 0, in the place of the magnitudes a, whose sum is `total`; and in `rests` the remainders that got no
-// unit.
+// The magnitudes of the point of a radius above 0, in the place of the magnitudes a, whose sum is `total`; and in
+// `rests` the remainders that got no unit.
 pub fn share(k: usize, total: u32, magnitudes: &mut [u32], rests: &mut [u32])
     requires { ⌜ Sharable k total (now magnitudes) (now rests) ⌝ }
     ensures { λ _. ⌜ (now (magnitudes .exit) ≡ sharing.shared k (now (magnitudes .entry)))

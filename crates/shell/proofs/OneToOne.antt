@@ -1,4 +1,4 @@
--- Two answers that the contract of count allows are equal. Assumes nothing.
+-- Two answers that the contract of count allows are equal.
 use mathlib.Core.Path.{_≡_, refl}
 use mathlib.Core.List.{List}
 use Prim.Native.Nat.{ℕ}

@@ -1,5 +1,5 @@
--- What the call count says of a shell: document 01, "Points and counts", "Refusal numbers" and "Order of checks". l is the length and k the radius,
--- any whole numbers. Assumes nothing.
+-- What the call count says of a shell: docs/RULES.md, "Points and counts", "Refusal numbers" and "Order of checks".
+-- l is the length and k the radius, any whole numbers.
 use Prim.Native.Nat.{ℕ}
 use mathlib.Core.List.{List, [], _∷_}
 use Rattle.answers.specs.Refusals.{meaning}

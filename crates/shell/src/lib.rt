@@ -1,5 +1,5 @@
-// The shells and their counts (document 01, "Points and counts"): the call count, and the width of a total. What the counts are made of
-// stands in `ranges`.
+// The shells and their counts (docs/RULES.md, "Points and counts"): the call count, and the width of a total. What
+// the counts are made of stands in `ranges`.
 
 use answers::Refusal;
 use answers::Verdict;

@@ -1,4 +1,4 @@
--- What C is given for what the calls say: N or 0, and 0 for nothing but a refusal; 0 or the refusal's number. Assumes nothing.
+-- What C is given for what the calls say: N or 0, and 0 for nothing but a refusal; 0 or the refusal's number.
 use Prim.Native.Nat.{ℕ, zero, suc, _≤_, _<_}
 use mathlib.Core.Bool.{Bool, true, false}
 use mathlib.Core.List.{List, [], _∷_}

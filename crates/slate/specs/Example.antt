@@ -1,4 +1,5 @@
--- What C is given, in numbers: counts, and takes into the page of document 01's whole case. proofs/Example.antt computes every line. Assumes nothing.
+-- What C is given, in numbers: counts, and takes into the page of the whole case (docs/RULES.md, "Worked cases").
+-- proofs/Example.antt computes every line.
 use mathlib.Core.Path.{_≡_}
 use mathlib.Core.List.{[]}
 use lib.ListN.{take}

@@ -1,5 +1,5 @@
--- The table of single values about the definitions: document 01, "Proofs of single values", its starred cases, a line each, with other
--- values of the document. proofs/Proved.antt computes every line. Assumes nothing.
+-- The table of single values about the definitions: docs/RULES.md, "Worked cases", its starred cases, a line each,
+-- with other values of the rules. proofs/Proved.antt computes every line.
 use Prim.Native.Nat.{ℕ, _^_}
 use mathlib.Core.Path.{_≡_}
 use mathlib.Core.Bool.{true, false}
@@ -25,7 +25,7 @@ use Rattle.coefficients.specs.Points.{pointOf}
 abbrev held : List ℕ
 held = replicate 8 9
 
--- the vector of document 01 with two zeros behind it
+-- the vector of the worked case with two zeros behind it
 abbrev longer : List Float
 longer = vector ++ fin false 0 (pos 0) ∷ fin true 0 (pos 0) ∷ []
 
@@ -43,7 +43,8 @@ pub record Table : Type 0 where
   pub star-point-18 : pointSays 3 2 18 buffer ≡ 6 ∷ []
   pub buffer-kept : pointLeaves 3 2 18 buffer ≡ buffer
   pub point-17 : pointLeaves 3 2 17 buffer ≡ triple (negℤ (pos 2)) (pos 0) (pos 0)
-  -- refusals 1 to 6 in their order, with two faults at once: 3 before 4, 4 before 5 and 6, a vector or buffer that is too short or too long
+  -- refusals 1 to 6 in their order, with two faults at once: 3 before 4, 4 before 5 and 6, a vector or buffer that
+  -- is too short or too long
   pub index-3 : indexSays 16 13 [] ≡ 3 ∷ []
   pub index-4-short : indexSays 3 2 (pos 1 ∷ []) ≡ 4 ∷ []
   pub index-4-long : indexSays 3 2 (pos 1 ∷ triple (pos 0) (pos 1) (pos 1)) ≡ 4 ∷ []

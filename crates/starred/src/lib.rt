@@ -1,1 +1,2 @@
-// The proved table of single values: specs/Table.antt states it and proofs/Proved.antt proves it. No function is here.
+// The proved table of single values: specs/Table.antt states it and proofs/Proved.antt proves it. No function is
+// here.

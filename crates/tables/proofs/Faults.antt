@@ -1,4 +1,4 @@
--- The faults of a row by the facts that the code finds. Assumes nothing.
+-- The faults of a row by the facts that the code finds.
 use Prim.Native.Nat.{ℕ, zero, suc, _+_, _-_, _≤_, _<_}
 use mathlib.Core.Path.{_≡_, refl, sym, _∙_}
 use mathlib.Core.List.{List}

@@ -1,4 +1,4 @@
--- What a good table gives to those that work with it: its size, and every row in range, each of its radii usable. Assumes nothing.
+-- What a good table gives to those that work with it: its size, and every row in range, each of its radii usable.
 use Prim.Native.Nat.{ℕ, zero, suc, _%_, _≤_, _<_}
 use mathlib.Core.Path.{_≡_}
 use mathlib.Core.List.{List, [], _∷_}

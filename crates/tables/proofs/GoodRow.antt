@@ -1,4 +1,4 @@
--- A row is in range, field by field, exactly when it is not bad by itself; and its enumeration is lawful. Assumes nothing.
+-- A row is in range, field by field, exactly when it is not bad by itself; and its enumeration is lawful.
 use Prim.Native.Nat.{ℕ, zero, suc, _≤_, _<_}
 use mathlib.Core.Path.{_≡_, refl, sym, _∙_}
 use mathlib.Core.List.{List, [], _∷_}

@@ -1,5 +1,6 @@
--- The stored largest radii are right: one test over the 16 lengths, which antt computes, and the law that it gives with the growth of N.
--- A shell of length 1 to 16 and radius 0 to 32 has at most 2^32 points exactly up to the largest radius. Assumes nothing.
+-- The stored largest radii are right: one test over the 16 lengths, which antt computes, and the law that it gives
+-- with the growth of N. A shell of length 1 to 16 and radius 0 to 32 has at most 2^32 points exactly up to the
+-- largest radius.
 use Prim.Native.Nat.{ℕ, zero, suc, _≤_, _<_}
 use mathlib.Core.Path.{_≡_, refl}
 use mathlib.Core.Logic.{_↔_, Or·elim}

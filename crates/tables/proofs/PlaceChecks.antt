@@ -1,4 +1,4 @@
--- The checks of a table and a place in it: what they tell where they pass, and that each has a number above 0. Assumes nothing.
+-- The checks of a table and a place in it: what they tell where they pass, and that each has a number above 0.
 use Prim.Native.Nat.{ℕ, _≤_, _<_}
 use mathlib.Core.Bool.{true, false}
 use mathlib.Core.List.{List, [], _∷_}

@@ -1,5 +1,5 @@
--- Places are numbered from 0 through the rows in order: every place of the table is in exactly one row, which is `rowOf`, and the places of a
--- row are consecutive. This holds of any bytes. Assumes nothing.
+-- Places are numbered from 0 through the rows in order: every place of the table is in exactly one row, which is
+-- `rowOf`, and the places of a row are consecutive. This holds of any bytes.
 use Prim.Native.Nat.{ℕ, zero, suc, _+_, _≤_, _<_}
 use mathlib.Core.Path.{_≡_, refl, sym, ap, _∙_}
 use mathlib.Core.List.{List}

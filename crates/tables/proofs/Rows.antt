@@ -1,4 +1,4 @@
--- The rows of a table as a survey goes through them: their bytes, the running total, and whether a row is bad. Assumes nothing.
+-- The rows of a table as a survey goes through them: their bytes, the running total, and whether a row is bad.
 use Prim.Native.Nat.{ℕ, zero, suc, _+_, _-_, _*_, _≤_, _<_}
 use mathlib.Core.Path.{_≡_, refl}
 use mathlib.Core.List.{List}

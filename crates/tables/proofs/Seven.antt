@@ -1,5 +1,5 @@
--- Every check of a table has number 7, which is above 0: so 7 is said of a bad table, and what is said otherwise tells that it is good. A table that is
--- too long is told by its first 513 bytes. Assumes nothing.
+-- Every check of a table has number 7, which is above 0: so 7 is said of a bad table, and what is said otherwise
+-- tells that it is good. A table that is too long is told by its first 513 bytes.
 use Prim.Native.Nat.{ℕ, _≤_}
 use mathlib.Core.Bool.{true}
 use mathlib.Core.List.{List, [], _∷_}

@@ -1,5 +1,5 @@
--- What the checks of a shell say, and what they tell: the refusals 1, 2 and 3 by the facts that a call finds, and that a shell which passes
--- them is usable. Assumes nothing.
+-- What the checks of a shell say, and what they tell: the refusals 1, 2 and 3 by the facts that a call finds, and
+-- that a shell which passes them is usable.
 use Prim.Native.Nat.{ℕ, _≤_, _<_}
 use mathlib.Core.Path.{_≡_, sym}
 use mathlib.Core.List.{List, [], _∷_}

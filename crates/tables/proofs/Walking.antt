@@ -1,5 +1,5 @@
--- The row of each place on the way through the places of a good table: it is the row of the place before, or the next, which has places of its
--- own. Assumes nothing.
+-- The row of each place on the way through the places of a good table: it is the row of the place before, or the
+-- next, which has places of its own.
 use Prim.Native.Nat.{ℕ, suc, _+_, _≤_, _<_}
 use mathlib.Core.List.{List}
 use mathlib.Core.Path.{_≡_, refl, ap}

@@ -1,5 +1,6 @@
--- Two rows, read by the definitions: the row of document 01's whole case, and one in which every byte up to the last two differs from its
--- neighbours; the faults of each; and tables of those rows. proofs/Example.antt computes every line. Assumes nothing.
+-- Two rows, read by the definitions: the row of the whole case (docs/RULES.md, "Worked cases"), and one in which
+-- every byte up to the last two differs from its neighbours; the faults of each; and tables of those rows.
+-- proofs/Example.antt computes every line.
 use Prim.Native.Nat.{ℕ, zero, suc}
 use mathlib.Core.Path.{_≡_}
 use mathlib.Core.List.{List, [], _∷_, _++_}
@@ -56,8 +57,9 @@ pub record Example : Type 0 where
   pub one-place : badRow (ofPlaces 0 1) ≡ false
   pub length-of-1 : badRow (1 ∷ drop 1 wholeCase) ≡ false
   pub one-radius : badRow (3 ∷ 1 ∷ 0 ∷ 0 ∷ drop 4 wholeCase) ≡ false
-  -- each other fault by itself: length 0 and 17; no radii, and nine; a first radius that is 1; two that are equal, the last two of eight among them;
-  -- one above 32; one past the largest of length 16, which is good; one beyond the number of radii; a byte 14 or 15 that is not 0
+  -- each other fault by itself: length 0 and 17; no radii, and nine; a first radius that is 1; two that are equal,
+  -- the last two of eight among them; one above 32; one past the largest of length 16, which is good; one beyond
+  -- the number of radii; a byte 14 or 15 that is not 0
   pub no-length : badRow (0 ∷ drop 1 wholeCase) ≡ true
   pub length-17 : badRow (17 ∷ drop 1 wholeCase) ≡ true
   pub no-radii : badRow (3 ∷ 0 ∷ 0 ∷ 0 ∷ drop 4 wholeCase) ≡ true
@@ -74,7 +76,8 @@ pub record Example : Type 0 where
   -- a shell of 2^32 points is within the limit, and one of a point more is not; no shell has either number of points
   pub most-points : tooMany 4294967296 ≡ false
   pub too-many : tooMany 4294967297 ≡ true
-  -- a shell's length, radius and number of points; of a length and a radius that are both at fault, the length is told
+  -- a shell's length, radius and number of points; of a length and a radius that are both at fault, the length is
+  -- told
   pub shell-1 : firstOf (shellChecks 17 1 (N 17 1)) (0 ∷ []) ≡ 1 ∷ []
   pub shell-2 : firstOf (shellChecks 16 33 (N 16 33)) (0 ∷ []) ≡ 2 ∷ []
   pub shell-3 : firstOf (shellChecks 16 13 (N 16 13)) (0 ∷ []) ≡ 3 ∷ []

@@ -1,4 +1,4 @@
--- The largest radius of a usable shell, stored by length: 16 numbers, which proofs/Largest.antt holds to N. Assumes nothing.
+-- The largest radius of a usable shell, stored by length: 16 numbers, which proofs/Largest.antt holds to N.
 use Prim.Native.Nat.{ℕ}
 use mathlib.Core.List.{List, [], _∷_}
 use lib.ListN.{getD}

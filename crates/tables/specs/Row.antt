@@ -1,5 +1,5 @@
--- A row of the pairing table, as the table of document 01, "Pairing table", gives it: its fields, and the faults that make it bad. `row` is the bytes
--- of the row. Assumes nothing.
+-- A row of the pairing table, as the table of docs/RULES.md, "Pairing table", gives it: its fields, and the faults
+-- that make it bad. `row` is the bytes of the row.
 use Prim.Native.Nat.{ℕ, zero, suc, _+_, _≤_, _<_}
 use mathlib.Core.Path.{_≡_}
 use mathlib.Core.List.{List, [], _∷_}

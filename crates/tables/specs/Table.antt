@@ -1,5 +1,6 @@
--- The pairing table as a whole (document 01, "Pairing table"): its rows and places, which tables are bad, what the call check says of one,
--- and the row of a place. t is the table's bytes, any list of them; r is the number of a row. Assumes nothing.
+-- The pairing table as a whole (docs/RULES.md, "Pairing table"): its rows and places, which tables are bad, what
+-- the call check says of one, and the row of a place. t is the table's bytes, any list of them; r is the number of
+-- a row.
 use Prim.Native.Nat.{ℕ, zero, suc, _+_, _*_, _/_, _%_, _≤_, _<_}
 use mathlib.Core.Path.{_≡_}
 use mathlib.Core.List.{List, [], _∷_, _++_}
@@ -80,8 +81,8 @@ unfoldable pub rowsBefore : List ℕ → ℕ → ℕ → ℕ
 rowsBefore t p zero = 0
 rowsBefore t p (suc n) = pick (leb (placesBefore t (suc n)) p) (suc (rowsBefore t p n)) (rowsBefore t p n)
 
--- the row of a place: rows are numbered from 0, so it is the number of those before it; proofs/Places.antt shows that it holds the place, and
--- that no other row does
+-- the row of a place: rows are numbered from 0, so it is the number of those before it; proofs/Places.antt shows
+-- that it holds the place, and that no other row does
 abbrev pub rowOf : List ℕ → ℕ → ℕ
 rowOf t p = rowsBefore t p (rowsOf t)
 
@@ -92,6 +93,7 @@ rowFor t p = rowAt t (rowOf t p)
 abbrev pub lengthFor : List ℕ → ℕ → ℕ
 lengthFor t p = lengthOf (rowFor t p)
 
--- what is told of a table and a place once they have passed some checks: the number of places, and the row of the place
+-- what is told of a table and a place once they have passed some checks: the number of places, and the row of the
+-- place
 abbrev pub surveySays : List Check → List ℕ → ℕ → List ℕ
 surveySays checks t p = firstOf checks (0 ∷ placesIn t ∷ rowOf t p ∷ [])

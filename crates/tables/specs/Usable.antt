@@ -1,5 +1,5 @@
--- Which shells there are: document 01, "Points and counts", "Refusal numbers" and "Order of checks". l is the length and k the radius, any whole
--- numbers; `total` is how many indices the shell has, which an enumeration says. Assumes nothing.
+-- Which shells there are: docs/RULES.md, "Points and counts", "Refusal numbers" and "Order of checks". l is the
+-- length and k the radius, any whole numbers; `total` is how many indices the shell has, which an enumeration says.
 use Prim.Native.Nat.{ℕ, _≤_, _^_}
 use mathlib.Core.List.{List, [], _∷_}
 use mathlib.Core.Bool.{Bool}

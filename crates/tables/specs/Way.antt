@@ -1,4 +1,4 @@
--- The way through the places of a good table, row by row. t is the table's bytes, r the number of a row, p a place. Assumes nothing.
+-- The way through the places of a good table, row by row. t is the table's bytes, r the number of a row, p a place.
 use Prim.Native.Nat.{ℕ, suc, _≤_, _<_}
 use mathlib.Core.Path.{_≡_}
 use mathlib.Core.List.{List}

@@ -1,4 +1,4 @@
--- The decimal digits of a number: one below ten, and one more than its tenth has. Assumes nothing.
+-- The decimal digits of a number: one below ten, and one more than its tenth has.
 --     decimal-one, decimal-more       the two steps
 --     decimal-size                    a number below 10^(k+1) has at most k+1 digits
 --     decimal-back, decimal-only      the digits read as the number again, so no other number has them

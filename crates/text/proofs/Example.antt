@@ -1,4 +1,4 @@
--- The text of the document's whole case and of the numbers at the ends, computed. Assumes nothing.
+-- The text of the whole case and of the numbers at the ends, computed.
 use mathlib.Core.Path.{refl}
 use Rattle.text.specs.Text.{decimal, digitsOf}
 use Rattle.text.specs.Example.{Example}

@@ -1,5 +1,5 @@
--- What the functions that write a text put together: a number by its digits, an integer behind a space, fields one by one, a word, and a line from its
--- first field to its newline. Assumes nothing.
+-- What the functions that write a text put together: a number by its digits, an integer behind a space, fields one
+-- by one, a word, and a line from its first field to its newline.
 use Prim.Native.Nat.{ℕ, zero, suc, _+_, _*_, _/_, _%_, _^_, _≤_, _<_}
 use mathlib.Core.Bool.{true, false, false≢true}
 use mathlib.Core.List.{List, [], _∷_, _++_, map, append-nil, append-assoc, map-append}

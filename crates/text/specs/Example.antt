@@ -1,4 +1,5 @@
--- The document's whole case as text, and the numbers at the ends. proofs/Example.antt computes every line. Assumes nothing.
+-- The whole case as text (docs/RULES.md, "Worked cases"), and the numbers at the ends. proofs/Example.antt computes
+-- every line.
 use mathlib.Core.Path.{_≡_}
 use mathlib.Core.List.{[], _∷_}
 use lib.IntN.{pos, negsuc}

@@ -1,5 +1,5 @@
--- The text of the listing, as bytes (document 01, "Listing program": "Numbers are decimal, with a minus sign where negative; one space stands between
--- fields, and a newline ends each line"). Assumes nothing.
+-- The text of the listing, as bytes (docs/RULES.md, "Listing program": "Numbers are decimal, with a minus sign
+-- where negative", "One space stands between two fields", and each line "ends in a newline character").
 use Prim.Native.Char.{code}
 use Prim.Native.Nat.{ℕ, zero, suc, _+_, _-_, _*_, _/_, _%_}
 use Prim.Native.String.{String, [] as endOf, _∷_ as _then_}
@@ -17,7 +17,8 @@ ascii (c then s) = code c ∷ ascii s
 abbrev pub digit : ℕ → ℕ
 digit d = 48 + d
 
--- the digits of n, the most significant first: one if n is below 10, and else those of n / 10 and that of n % 10; f is as large as n at the least
+-- the digits of n, the most significant first: one if n is below 10, and else those of n / 10 and that of n % 10; f
+-- is as large as n at the least
 unfoldable pub digitsOf : ℕ → Bool → ℕ → List ℕ
 digitsOf zero below n = digit n ∷ []
 digitsOf (suc f) true n = digit n ∷ []
@@ -53,14 +54,14 @@ word (suc (suc zero)) = ascii "missing"
 word (suc (suc (suc zero))) = ascii "contested"
 word (suc (suc (suc (suc n)))) = ascii "unreadable"
 
--- "a line a place: place, answer word, reason (0 where none), coordinates"; the answer by its number
+-- "place, answer, reason (0 where there is none), then the l coordinates"; the answer by its number
 abbrev pub placeText : ℕ → ℕ → ℕ → List ℤ → List ℕ
 placeText place answer reason coordinates = line (decimal place) (word answer ∷ decimal reason ∷ map integer coordinates)
 
--- "Last line: `tally`, the five counts, and the number of refused takes": the six numbers
+-- the last line, "`tally`, the five counts of the tally, the number of refused takes": the six numbers
 abbrev pub lastText : List ℕ → List ℕ
 lastText numbers = line (ascii "tally") (map decimal numbers)
 
--- "A bad table prints only `refused 7`"
+-- "A bad table prints `refused 7` and nothing else"
 abbrev pub refusedText : ℕ → List ℕ
 refusedText number = line (ascii "refused") (decimal number ∷ [])

@@ -1,4 +1,4 @@
--- `listing::list` lists a page of so many places. Assumes nothing.
+-- `listing::list` lists a page of so many places.
 use Prim.Native.Nat.{ℕ}
 use mathlib.Core.List.{List}
 use mathlib.Core.Path.{_≡_, sym}

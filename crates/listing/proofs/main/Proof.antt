@@ -1,4 +1,4 @@
--- `listing::main` lists the page, or prints the refusal of its table. Assumes nothing.
+-- `listing::main` lists the page, or prints the refusal of its table.
 use lib.ListN.{take}
 use borrow.Author.Needs.{needs}
 use Rattle.listing.proofs.Parts.{places-few}

@@ -1,5 +1,5 @@
-// The two files. A table is read as far as it tells whether it is too long; records are taken block by block, 65,536 bytes each but the last, a whole
-// number of records.
+// The two files. A table is read as far as it tells whether it is too long; records are taken block by block,
+// 65,536 bytes each but the last, a whole number of records.
 use page::collect;
 ghost use mathlib.Core.Path.{_≡_};
 ghost use Prim.Native.Nat.{_+_, _≤_};
@@ -8,7 +8,8 @@ ghost use Rattle.io.specs.Counts.{Counts};
 ghost use Rattle.tables.specs.Table.{tableRoom};
 ghost use Rattle.listing.specs.Took.{Took};
 
-// A loop has to have an end, and nothing says that a file has one. 2^48 blocks of 2^16 bytes are 2^64 bytes, more than any file has.
+// A loop has to have an end, and nothing says that a file has one. 2^48 blocks of 2^16 bytes are 2^64 bytes, more
+// than any file has.
 const MOST_TURNS: u64 = 281474976710656;
 
 // Opens a file. One that is missing is no failure; any other reason is told.
@@ -22,7 +23,8 @@ fn open(path: &[u8]) -> i32 {
     fd
 }
 
-// Reads once into the block, from `filled` on, and answers how many bytes came: none at the end of the file, nor where the read fails, which is told.
+// Reads once into the block, from `filled` on, and answers how many bytes came: none at the end of the file, nor
+// where the read fails, which is told.
 fn read_more(fd: i32, path: &[u8], block: &mut [u8], filled: usize) -> usize
     requires { ⌜ filled ≤ length (now block) ⌝ }
     ensures { λ n. ⌜ filled + n ≤ length (now (block .entry)) ⌝ }

@@ -1,4 +1,5 @@
-// What is printed, a block at a time. Where it cannot be written, standard error tells so, and nothing more is printed.
+// What is printed, a block at a time. Where it cannot be written, standard error tells so, and nothing more is
+// printed.
 use answers::Refusal;
 use libc::STDOUT_FILENO;
 use page::Tallied;

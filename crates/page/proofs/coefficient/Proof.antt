@@ -1,5 +1,5 @@
--- `page::coefficient` says what the call coefficient is to say and carries the value that it is to carry: a refusal of the checks of the table, the place
--- and the page; or else what is said and carried in the row of the place. Assumes nothing.
+-- `page::coefficient` says what the call coefficient is to say and carries the value that it is to carry: a refusal
+-- of the checks of the table, the place and the page; or else what is said and carried in the row of the place.
 use Prim.Native.Nat.{ℕ}
 use mathlib.Core.List.{List, []}
 use lib.Ieee.{Float}

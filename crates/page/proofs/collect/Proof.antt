@@ -1,4 +1,5 @@
--- `page::collect` takes a run of records: all parts are refused where the table or the page is, or else what is done behind their checks. Assumes nothing.
+-- `page::collect` takes a run of records: all parts are refused where the table or the page is, or else what is
+-- done behind their checks.
 use mathlib.Core.Path.{sym, ap, _∙_}
 use borrow.Author.Needs.{needs}
 use Rattle.pairing.proofs.Surveys.{survey-fails}

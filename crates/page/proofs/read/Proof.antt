@@ -1,5 +1,5 @@
--- `page::read` says what the call read is to say and leaves what it is to leave: a refusal of the checks of the table, the place and the page, and the
--- buffer as it was; or else what is said and left in the row of the place. Assumes nothing.
+-- `page::read` says what the call read is to say and leaves what it is to leave: a refusal of the checks of the
+-- table, the place and the page, and the buffer as it was; or else what is said and left in the row of the place.
 use Prim.Native.Nat.{ℕ}
 use mathlib.Core.List.{List}
 use lib.IntN.{ℤ}

@@ -1,5 +1,5 @@
--- `page::take` says what the call take is to say and leaves what it is to leave: a refusal of the checks of the table and the page, and the page as it was;
--- or else what is said and left behind them. Assumes nothing.
+-- `page::take` says what the call take is to say and leaves what it is to leave: a refusal of the checks of the
+-- table and the page, and the page as it was; or else what is said and left behind them.
 use mathlib.Core.List.{[], _∷_}
 use mathlib.Core.Path.{_∙_}
 use borrow.Author.Needs.{needs}

@@ -1,4 +1,5 @@
--- `page::tally` says what the call tally is to say: a refusal of the checks of the table and the page; or else what is said behind them. Assumes nothing.
+-- `page::tally` says what the call tally is to say: a refusal of the checks of the table and the page; or else what
+-- is said behind them.
 use mathlib.Core.List.{_∷_}
 use mathlib.Core.Path.{_∙_}
 use borrow.Author.Needs.{needs}

@@ -12,7 +12,8 @@ ghost use Rattle.rules.specs.Taking.{takeRest, takeInto, refusals, takeLeaves, 
 ghost use Rattle.page.specs.Bounds.{Ready};
 ghost use Rattle.page.specs.Meanings.{takeMeaning};
 
-// What take does with a table and a page that passed: the checks 4, 8 and 12, and the work. The table is what the contract speaks of.
+// What take does with a table and a page that passed: the checks 4, 8 and 12, and the work. The table is what the
+// contract speaks of.
 pub fn take_record(table: &[u8], places: usize, page: &mut [u8], bytes: &[u8]) -> Arrival
     requires { ⌜ Ready (now table) (now page) places ⌝ }
     ensures { λ r. ⌜ (takeMeaning r ≡ firstOf (takeRest (now (table .entry)) (now (page .entry)) (now (bytes .entry))) (0 ∷ []))

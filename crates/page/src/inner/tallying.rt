@@ -16,7 +16,8 @@ ghost use Rattle.tables.specs.Table.{rowOf};
 ghost use Rattle.page.specs.Bounds.{Ready};
 ghost use Rattle.page.specs.Meanings.{tallyMeaning};
 
-// What tally does with a table and a page that passed, from the row of place 0 on: check 12 at every place, and the counts on the way.
+// What tally does with a table and a page that passed, from the row of place 0 on: check 12 at every place, and the
+// counts on the way.
 pub fn tally_page(table: &[u8], places: usize, row: usize, page: &[u8]) -> Tallied
     requires { ⌜ Ready (now table) (now page) places × (row ≡ rowOf (now table) 0) ⌝ }
     ensures { λ r. ⌜ tallyMeaning r ≡ firstOf (tallyRest (now (table .entry)) (now (page .entry))) (0 ∷ tallyOf (now (table .entry)) (now (page .entry))) ⌝ }

@@ -1,5 +1,5 @@
--- `pairing::check` says what the checks of the table say, with the places where they pass: the survey says the same, with a row besides.
--- Assumes nothing.
+-- `pairing::check` says what the checks of the table say, with the places where they pass: the survey says the
+-- same, with a row besides.
 use Prim.Native.Nat.{ℕ}
 use mathlib.Core.Path.{sym, ap, _∙_}
 use mathlib.Core.List.{List, [], _∷_}

@@ -1,5 +1,6 @@
-// What the calls ask of a table before they work: one pass over its rows, which judges every row, adds up the places and finds the row of a place on
-// the way, so that a call which is given a table and a place goes over the rows once.
+// What the calls ask of a table before they work: one pass over its rows, which judges every row, adds up the
+// places and finds the row of a place on the way, so that a call which is given a table and a place goes over the
+// rows once.
 use answers::Refusal;
 use rows::inner::fault::bad_row;
 use rows::inner::row::places;
@@ -10,7 +11,8 @@ ghost use Rattle.tables.specs.Table.{wrongSize, tableChecks, placeChecks, surve
 ghost use Rattle.pairing.specs.Meanings.{surveyMeaning};
 
 pub enum Surveyed {
-    // the number of places, and the row of the place that was asked for, or the number of rows where there is no such place
+    // the number of places, and the row of the place that was asked for, or the number of rows where there is no
+    // such place
     Good { places: usize, row: usize },
     Bad(Refusal),
 }

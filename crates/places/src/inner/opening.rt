@@ -1,4 +1,5 @@
-// What the calls ask of a table and a page before they work: a survey of the table, with the checks of the place and of the page's length behind it.
+// What the calls ask of a table and a page before they work: a survey of the table, with the checks of the place
+// and of the page's length behind it.
 use answers::Refusal;
 use layout::inner::wrong_page;
 use pairing::inner::survey::Surveyed;

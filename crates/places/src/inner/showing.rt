@@ -1,4 +1,5 @@
-// What a place shows: the number of its answer, the reason, and the point of a sound or mended one or zeros for the others.
+// What a place shows: the number of its answer, the reason, and the point of a sound or mended one or zeros for the
+// others.
 use cells::inner::judging::Seen;
 use counts::Radius;
 use numbering::inner::Found;

@@ -1,5 +1,5 @@
--- `points::index` says what the call index is to say: a refusal of the checks of the shell as it stands, and else what is said in a usable shell.
--- Assumes nothing.
+-- `points::index` says what the call index is to say: a refusal of the checks of the shell as it stands, and else
+-- what is said in a usable shell.
 use borrow.Author.Needs.{needs}
 use mathlib.Core.Path.{sym, ap, _∙_}
 use mathlib.Core.List.{[], _∷_}

@@ -1,4 +1,5 @@
--- `points::index_usable` says in a usable shell what the call index is to say: refusals 4 and 5, or the product index. Assumes nothing.
+-- `points::index_usable` says in a usable shell what the call index is to say: refusals 4 and 5, or the product
+-- index.
 use borrow.Author.Needs.{needs}
 use Prim.Native.Nat.{ℕ}
 use mathlib.Core.Path.{sym, ap, _∙_}

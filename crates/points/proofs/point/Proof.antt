@@ -1,5 +1,5 @@
--- `points::point` says what the call point is to say and leaves what it is to leave: a refusal of the checks of the shell, and the buffer as it
--- was; or else what is said and left in a usable shell. Assumes nothing.
+-- `points::point` says what the call point is to say and leaves what it is to leave: a refusal of the checks of the
+-- shell, and the buffer as it was; or else what is said and left in a usable shell.
 use borrow.Author.Needs.{needs}
 use mathlib.Core.Path.{sym, ap, _∙_}
 use mathlib.Core.List.{[], _∷_}

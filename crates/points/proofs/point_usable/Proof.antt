@@ -1,5 +1,5 @@
--- `points::point_usable` says and leaves in a usable shell what the call point is to say and leave: refusals 4 and 6, and the buffer as it was; or
--- the point of the index. Assumes nothing.
+-- `points::point_usable` says and leaves in a usable shell what the call point is to say and leave: refusals 4 and
+-- 6, and the buffer as it was; or the point of the index.
 use borrow.Author.Needs.{needs}
 use mathlib.Core.Path.{_∙_}
 use Rattle.numbering.specs.Numbered.{enumerationIn}

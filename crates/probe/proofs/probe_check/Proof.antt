@@ -1,4 +1,4 @@
--- `probe::probe_check` is the number of what the call check says. Assumes nothing.
+-- `probe::probe_check` is the number of what the call check says.
 use borrow.Author.Needs.{needs}
 use mathlib.Core.Path.{ap, _∙_}
 use Rattle.answers.specs.Checks.{numberSaid}

@@ -1,4 +1,4 @@
--- `probe::probe_check_value` is the value of what the call check says. Assumes nothing.
+-- `probe::probe_check_value` is the value of what the call check says.
 use borrow.Author.Needs.{needs}
 use mathlib.Core.Path.{ap, _∙_}
 use Rattle.probe.specs.Coded.{valued}

@@ -1,4 +1,4 @@
--- `probe::probe_count` is the code of what the call count says. Assumes nothing.
+-- `probe::probe_count` is the code of what the call count says.
 use borrow.Author.Needs.{needs}
 use mathlib.Core.Path.{sym, _∙_}
 use mathlib.Core.List.{[]}

@@ -1,4 +1,4 @@
--- `probe::probe_index` is the code of what the call index says. Assumes nothing.
+-- `probe::probe_index` is the code of what the call index says.
 use borrow.Author.Needs.{needs}
 use mathlib.Core.Path.{sym, _∙_}
 use mathlib.Core.List.{[]}

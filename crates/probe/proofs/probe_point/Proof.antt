@@ -1,4 +1,4 @@
--- `probe::probe_point` is the number of what the call point says, and leaves in the buffer what that call leaves. Assumes nothing.
+-- `probe::probe_point` is the number of what the call point says, and leaves in the buffer what that call leaves.
 use borrow.Author.Needs.{needs}
 use mathlib.Core.Path.{_∙_}
 use Rattle.points.specs.Calls.{pointMeaning, pointSays}

@@ -1,4 +1,4 @@
--- `probe::refused` is the code of a refusal. Assumes nothing.
+-- `probe::refused` is the code of a refusal.
 use borrow.Author.Needs.{needs}
 use mathlib.Core.Path.{ap, _∙_}
 use Prim.Native.Nat.{ℕ, _+_, _^_}

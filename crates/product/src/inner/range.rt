@@ -14,8 +14,8 @@ pub struct Range {
     pub start: u64,
 }
 
-// The first range, counted down from s = m, that holds n: as each starts where the one before ends, the first that ends past n. Where none
-// does, s is 0 and the start is the end of the last.
+// The first range, counted down from s = m, that holds n: as each starts where the one before ends, the first that
+// ends past n. Where none does, s is 0 and the start is the end of the last.
 pub fn locate(length: Length, radius: Radius, n: u64) -> Range
     requires { ⌜ IsUsable (length .0) (radius .0) (N (length .0) (radius .0)) ⌝ }
     ensures { λ r. ⌜ (r .s ≡ rangeOf (length .0) (radius .0) n) × (r .start ≡ O (r .s) (length .0) (radius .0)) ⌝ }

@@ -1,5 +1,5 @@
-// The point of an index, written from the first coordinate on: each coordinate is zero or the next of the shape, and what is left are the
-// components of a point that is one coordinate shorter.
+// The point of an index, written from the first coordinate on: each coordinate is zero or the next of the shape,
+// and what is left are the components of a point that is one coordinate shorter.
 use crate::inner::components::Components;
 use crate::inner::range::Range;
 use coordinates::inner::signed;
@@ -22,8 +22,8 @@ struct First {
     left: u32,
 }
 
-// The first of s+1 magnitudes that sum to the radius, of the shape of this number, where there are others. S(s,k-1) shapes begin with 1, and as many
-// as S(s,k-i) with i.
+// The first of s+1 magnitudes that sum to the radius, of the shape of this number, where there are others. S(s,k-1)
+// shapes begin with 1, and as many as S(s,k-i) with i.
 fn search_magnitude(s: usize, radius: Radius, shape: u32) -> First
     requires { ⌜ (0 < s) × (s < 16) × (radius .0 ≤ 32) × (shape < S (suc s) (radius .0)) ⌝ }
     ensures { λ r. ⌜ IsFirstOf s (radius .0) shape (r .magnitude) (r .left) ⌝ }
@@ -43,7 +43,8 @@ fn search_magnitude(s: usize, radius: Radius, shape: u32) -> First
     }
 }
 
-// The same for any number of others. The last magnitude is all that is left; where there is one after it, one shape begins with each magnitude.
+// The same for any number of others. The last magnitude is all that is left; where there is one after it, one shape
+// begins with each magnitude.
 fn first_magnitude(s: usize, radius: Radius, shape: u32) -> First
     requires { ⌜ (s < 16) × (radius .0 ≤ 32) × (shape < S (suc s) (radius .0)) ⌝ }
     ensures { λ r. ⌜ IsFirstOf s (radius .0) shape (r .magnitude) (r .left) ⌝ }

@@ -1,5 +1,5 @@
-// The index of a point, in one pass from its last coordinate: the weight of what stands from a coordinate on is made of that of what stands
-// after it.
+// The index of a point, in one pass from its last coordinate: the weight of what stands from a coordinate on is
+// made of that of what stands after it.
 use coordinates::inner::magnitude;
 use counts::Length;
 use counts::Radius;
@@ -17,8 +17,8 @@ ghost use Rattle.enumeration.specs.Product.{signBit, productIndex};
 ghost use Rattle.tables.specs.Usable.{IsUsable};
 ghost use Rattle.product.specs.Weights.{nothing, weightOf, extended, Room, Summable, weighed, Weighable};
 
-// Of some coordinates: the number s of those that are nonzero, their sum k, the pattern index, the number of shapes that come after theirs, and the
-// sign index.
+// Of some coordinates: the number s of those that are nonzero, their sum k, the pattern index, the number of shapes
+// that come after theirs, and the sign index.
 pub struct Weight {
     pub s: usize,
     pub k: usize,
@@ -35,7 +35,8 @@ fn sign_weight(negative: bool, s: usize) -> u64
     if negative { sign_count(s) } else { 0 }
 }
 
-// The weight of a nonzero coordinate of this magnitude and sign with `left` zeros after it: as many patterns come before, and no shape after.
+// The weight of a nonzero coordinate of this magnitude and sign with `left` zeros after it: as many patterns come
+// before, and no shape after.
 fn last_nonzero(i: usize, negative: bool, left: Length) -> Weight
     requires { ⌜ left .0 ≤ 16 ⌝ }
     ensures { λ r. ⌜ r ≡ extended nothing i negative (left .0) ⌝ }
@@ -49,8 +50,8 @@ fn last_nonzero(i: usize, negative: bool, left: Length) -> Weight
     }
 }
 
-// The weight with a nonzero coordinate in front of some others, of this magnitude and sign; after it stand `left` coordinates. The patterns before it
-// have a zero there, the shapes after it a larger magnitude.
+// The weight with a nonzero coordinate in front of some others, of this magnitude and sign; after it stand `left`
+// coordinates. The patterns before it have a zero there, the shapes after it a larger magnitude.
 fn with_others(behind: Weight, i: usize, negative: bool, left: Length) -> Weight
     requires { ⌜ Room behind i negative (left .0) × (0 < behind .k) ⌝ }
     ensures { λ r. ⌜ r ≡ extended behind i negative (left .0) ⌝ }
@@ -131,7 +132,8 @@ fn weight_of(x: &[i32]) -> Weight
     weight
 }
 
-// What a weight sums up to: start + (pattern x shapes + shape) x signs + sign. The shape is as many before the last one as come after it.
+// What a weight sums up to: start + (pattern x shapes + shape) x signs + sign. The shape is as many before the last
+// one as come after it.
 fn sum_up(weight: Weight, start: u64, shapes: u64, signs: u64) -> u64
     requires { ⌜ Summable weight start shapes signs ⌝ }
     ensures { λ r. ⌜ r ≡ start + (weight .pattern * shapes + (shapes - 1 - weight .after)) * signs + weight .sign ⌝ }

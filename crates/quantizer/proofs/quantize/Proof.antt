@@ -1,5 +1,6 @@
--- `quantizer::quantize` says what the call quantize is to say and leaves what it is to leave: a refusal of the checks of the table and the place, and the
--- record as it was; or else what is said and left for the row of the place. Assumes nothing.
+-- `quantizer::quantize` says what the call quantize is to say and leaves what it is to leave: a refusal of the
+-- checks of the table and the place, and the record as it was; or else what is said and left for the row of the
+-- place.
 use Prim.Native.Nat.{ℕ}
 use mathlib.Core.List.{List, [], _∷_}
 use borrow.Author.Needs.{needs}

@@ -1,5 +1,5 @@
--- `quantizer::quantize_at` says and leaves for a row what the call quantize is to say and leave behind the checks of the table and the place: refusals 4,
--- 4 and 11, and the record as it was; or the record of the vector. Assumes nothing.
+-- `quantizer::quantize_at` says and leaves for a row what the call quantize is to say and leave behind the checks
+-- of the table and the place: refusals 4, 4 and 11, and the record as it was; or the record of the vector.
 use mathlib.Core.List.{[]}
 use mathlib.Core.Path.{refl, sym, ap, _∙_}
 use borrow.Author.Needs.{needs}

@@ -1,4 +1,4 @@
--- `report::last_line` writes the last line, if there is room for a line. Assumes nothing.
+-- `report::last_line` writes the last line, if there is room for a line.
 use borrow.Author.Needs.{needs}
 use Rattle.page.specs.Meanings.{countsMeaning}
 use Rattle.report.specs.Listing.{lastLine}

@@ -1,5 +1,5 @@
--- `report::lines` says what the call lines is to say and leaves what it is to leave: a refusal of the checks of the table, the place and the page, and the
--- buffer as it was; or else what is said and left behind them. Assumes nothing.
+-- `report::lines` says what the call lines is to say and leaves what it is to leave: a refusal of the checks of the
+-- table, the place and the page, and the buffer as it was; or else what is said and left behind them.
 use mathlib.Core.Path.{_∙_}
 use native.Mathlib.Omega.{arith}
 use borrow.Author.Needs.{needs}

@@ -1,4 +1,4 @@
--- `report::refused_line` writes the line of a refusal, if there is room for a line. Assumes nothing.
+-- `report::refused_line` writes the line of a refusal, if there is room for a line.
 use borrow.Author.Needs.{needs}
 use Rattle.answers.specs.Refusals.{numberOf}
 use Rattle.text.specs.Text.{refusedText}

@@ -1,4 +1,5 @@
--- `shell::check_shell` says what the checks 1, 2 and 3 say: at each return the tests on the way are the checks up to there. Assumes nothing.
+-- `shell::check_shell` says what the checks 1, 2 and 3 say: at each return the tests on the way are the checks up
+-- to there.
 use borrow.Author.Needs.{needs}
 use mathlib.Core.List.{[], _∷_}
 use native.Mathlib.Omega.{arith}

@@ -1,4 +1,4 @@
--- `shell::count` says what the call count is to say: a refusal of the checks as it stands, and else N. Assumes nothing.
+-- `shell::count` says what the call count is to say: a refusal of the checks as it stands, and else N.
 use borrow.Author.Needs.{needs}
 use Prim.Native.Nat.{ℕ}
 use mathlib.Core.Path.{sym, ap, _∙_}

@@ -1,5 +1,5 @@
--- `shell::width` is the width of a total: above 1 the leading zeros of n - 1 leave a number of bits j with 2^(j-1) < n and n at most 2^j.
--- Assumes nothing.
+-- `shell::width` is the width of a total: above 1 the leading zeros of n - 1 leave a number of bits j with 2^(j-1)
+-- < n and n at most 2^j.
 use borrow.Author.Needs.{needs}
 use Prim.Native.Nat.{ℕ, suc, _+_, _-_, _^_, _≤_, _<_}
 use mathlib.Core.Path.{_≡_, sym, _∙_}

@@ -1,4 +1,4 @@
--- `slate::aldrynja_count` gives N, or 0 for a refusal. Assumes nothing.
+-- `slate::aldrynja_count` gives N, or 0 for a refusal.
 use borrow.Author.Needs.{needs}
 use mathlib.Core.Path.{sym, ap, _∙_}
 use Rattle.shell.specs.Shell.{countMeaning}

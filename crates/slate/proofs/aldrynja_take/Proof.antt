@@ -1,4 +1,4 @@
--- `slate::aldrynja_take` gives 0, or the number of the refusal, and leaves in the page what the call take leaves. Assumes nothing.
+-- `slate::aldrynja_take` gives 0, or the number of the refusal, and leaves in the page what the call take leaves.
 use borrow.Author.Needs.{needs}
 use mathlib.Core.Path.{sym, ap, _∙_}
 use Rattle.page.specs.Meanings.{takeMeaning}

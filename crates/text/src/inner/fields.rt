@@ -47,7 +47,8 @@ pub fn write_number(n: u64, at: usize, out: &mut [u8]) -> usize
     write_decimal(n, next, out)
 }
 
-// A space and an integer, with its minus sign where it is negative. It asks for the room of any number, and takes less.
+// A space and an integer, with its minus sign where it is negative. It asks for the room of any number, and takes
+// less.
 pub fn write_integer(x: i32, at: usize, out: &mut [u8]) -> usize
     requires { ⌜ at + 22 ≤ length (now out) ⌝ }
     ensures { λ r. ⌜ Wrote (now (out .entry)) at (ascii " " ++ integer x) 12 r (now (out .exit)) ⌝ }

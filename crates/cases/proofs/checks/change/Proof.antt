@@ -1,4 +1,4 @@
--- `cases::checks::change` is safe and ends: the numbers are gone through by twos. Assumes nothing.
+-- `cases::checks::change` is safe and ends: the numbers are gone through by twos.
 use borrow.Author.Needs.{needs}
 use Prim.Native.Nat.{_-_}
 use mathlib.Core.Path.{_≡_}

@@ -1,4 +1,4 @@
--- `cases::checks::fill` is safe and ends: every byte is written once. Assumes nothing.
+-- `cases::checks::fill` is safe and ends: every byte is written once.
 use borrow.Author.Needs.{needs}
 use Prim.Native.Nat.{_-_}
 use mathlib.Core.Path.{_≡_}

@@ -1,4 +1,4 @@
--- `cases::checks::radii` is safe and ends: the radius number grows to 8. Assumes nothing.
+-- `cases::checks::radii` is safe and ends: the radius number grows to 8.
 use borrow.Author.Needs.{needs}
 use Prim.Native.Nat.{_-_}
 use Rattle.cases.proofs.checks.radii.Statement.{statement}

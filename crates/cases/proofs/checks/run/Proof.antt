@@ -1,4 +1,4 @@
--- `cases::checks::run` lends as much of the room as the table takes. Assumes nothing.
+-- `cases::checks::run` lends as much of the room as the table takes.
 use mathlib.Core.Path.{sym}
 use native.Mathlib.Omega.{arith}
 use lib.Seq.{length-take-le}

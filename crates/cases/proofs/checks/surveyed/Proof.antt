@@ -1,4 +1,4 @@
--- `cases::checks::surveyed` asks for the fields of a row of the table: the survey says which row is the place's. Assumes nothing.
+-- `cases::checks::surveyed` asks for the fields of a row of the table: the survey says which row is the place's.
 use native.Mathlib.Omega.{arith}
 use Rattle.pairing.proofs.Surveys.{survey-good}
 use Rattle.tables.proofs.Places.{row-below}

@@ -1,4 +1,4 @@
--- `cases::coefficients::bytes` is safe and ends: every byte is written once. Assumes nothing.
+-- `cases::coefficients::bytes` is safe and ends: every byte is written once.
 use borrow.Author.Needs.{needs}
 use Prim.Native.Nat.{_-_}
 use native.Mathlib.Omega.{arith}

@@ -1,4 +1,4 @@
--- `cases::coefficients::coefficient` is safe: the pattern of a NaN is not read. Assumes nothing.
+-- `cases::coefficients::coefficient` is safe: the pattern of a NaN is not read.
 use borrow.Author.Needs.{needs}
 use borrow.Author.Tests.{le-ltb}
 use Prim.Native.Nat.{_*_, _%_, _^_}

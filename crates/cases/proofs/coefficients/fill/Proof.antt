@@ -1,4 +1,4 @@
--- `cases::coefficients::fill` is safe and ends: every coefficient is set once. Assumes nothing.
+-- `cases::coefficients::fill` is safe and ends: every coefficient is set once.
 use borrow.Author.Needs.{needs}
 use Prim.Native.Nat.{_-_}
 use mathlib.Core.Path.{_≡_}

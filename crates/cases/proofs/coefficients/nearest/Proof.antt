@@ -1,4 +1,4 @@
--- `cases::coefficients::nearest` is safe: only a usable coefficient is rounded. Assumes nothing.
+-- `cases::coefficients::nearest` is safe: only a usable coefficient is rounded.
 use borrow.Author.Needs.{needs}
 use mathlib.Core.Path.{sym, _∙_}
 use Rattle.cases.proofs.coefficients.nearest.Statement.{statement}

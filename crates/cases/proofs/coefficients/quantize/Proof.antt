@@ -1,4 +1,4 @@
--- `cases::coefficients::quantize` lends as much of its vector as the case says. Assumes nothing.
+-- `cases::coefficients::quantize` lends as much of its vector as the case says.
 use borrow.Author.Needs.{needs}
 use mathlib.Core.Path.{sym}
 use native.Mathlib.Omega.{arith}

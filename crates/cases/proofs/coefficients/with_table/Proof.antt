@@ -1,4 +1,4 @@
--- `cases::coefficients::with_table` lends as much of its record as the case says. Assumes nothing.
+-- `cases::coefficients::with_table` lends as much of its record as the case says.
 use borrow.Author.Needs.{needs}
 use mathlib.Core.Path.{sym}
 use native.Mathlib.Omega.{arith}

@@ -1,4 +1,4 @@
--- `cases::coefficients::with_vector` lends as much of the room as the table of the case is long. Assumes nothing.
+-- `cases::coefficients::with_vector` lends as much of the room as the table of the case is long.
 use borrow.Author.Needs.{needs}
 use mathlib.Core.Path.{sym}
 use native.Mathlib.Omega.{arith}

@@ -1,4 +1,4 @@
--- `cases::indices::coordinate` is safe: what is past the highest coordinate is counted down from -1. Assumes nothing.
+-- `cases::indices::coordinate` is safe: what is past the highest coordinate is counted down from -1.
 use Prim.Native.Nat.{ℕ, zero, suc, _-_, _%_, _^_, _<_}
 use native.Mathlib.Omega.{arith}
 use lib.Dec.{lit<}

@@ -1,4 +1,4 @@
--- `cases::indices::coordinates` is safe and ends: every coordinate is written once. Assumes nothing.
+-- `cases::indices::coordinates` is safe and ends: every coordinate is written once.
 use borrow.Author.Needs.{needs}
 use Prim.Native.Nat.{_-_}
 use lib.ListN.{length}

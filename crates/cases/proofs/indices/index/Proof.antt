@@ -1,4 +1,4 @@
--- `cases::indices::index` lends as much of its vector as there are coordinates. Assumes nothing.
+-- `cases::indices::index` lends as much of its vector as there are coordinates.
 use Prim.Native.Nat.{_-_}
 use mathlib.Core.Path.{sym}
 use native.Mathlib.Omega.{arith}

@@ -1,4 +1,4 @@
--- `cases::indices::index_of` is safe and ends: every coordinate is set once. Assumes nothing.
+-- `cases::indices::index_of` is safe and ends: every coordinate is set once.
 use borrow.Author.Needs.{needs}
 use Prim.Native.Nat.{_-_}
 use mathlib.Core.Path.{_≡_}

@@ -1,4 +1,4 @@
--- `cases::indices::point` lends as much of its buffer as the case says. Assumes nothing.
+-- `cases::indices::point` lends as much of its buffer as the case says.
 use mathlib.Core.Path.{sym}
 use native.Mathlib.Omega.{arith}
 use lib.IntN.{pos}

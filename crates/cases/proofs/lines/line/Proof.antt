@@ -1,4 +1,4 @@
--- `cases::lines::line` lends the numbers that were read. Assumes nothing.
+-- `cases::lines::line` lends the numbers that were read.
 use mathlib.Core.Path.{sym}
 use native.Mathlib.Omega.{arith}
 use lib.Seq.{length-take-le}

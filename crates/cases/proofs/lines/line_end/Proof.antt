@@ -1,4 +1,4 @@
--- `cases::lines::line_end` ends where the text does at the latest. Assumes nothing.
+-- `cases::lines::line_end` ends where the text does at the latest.
 use borrow.Author.Needs.{needs}
 use Prim.Native.Nat.{_-_, _≤_}
 use lib.ListN.{length}

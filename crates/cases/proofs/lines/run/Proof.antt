@@ -1,4 +1,4 @@
--- `cases::lines::run` is safe and ends: each turn goes past a line. Assumes nothing.
+-- `cases::lines::run` is safe and ends: each turn goes past a line.
 use borrow.Author.Needs.{needs}
 use Prim.Native.Nat.{_-_}
 use mathlib.Core.Path.{_≡_}

@@ -1,4 +1,4 @@
--- `cases::pages::copy` is safe and ends: every byte is written once. Assumes nothing.
+-- `cases::pages::copy` is safe and ends: every byte is written once.
 use Prim.Native.Nat.{_-_}
 use mathlib.Core.Path.{_≡_}
 use lib.ListN.{length}

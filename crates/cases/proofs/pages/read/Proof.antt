@@ -1,4 +1,4 @@
--- `cases::pages::read` lends as much of its buffer as the case says. Assumes nothing.
+-- `cases::pages::read` lends as much of its buffer as the case says.
 use mathlib.Core.Path.{sym}
 use native.Mathlib.Omega.{arith}
 use lib.IntN.{pos}

@@ -1,4 +1,4 @@
--- `cases::pages::run` lends as much of its page as the case says. Assumes nothing.
+-- `cases::pages::run` lends as much of its page as the case says.
 use mathlib.Core.Path.{sym}
 use native.Mathlib.Omega.{arith}
 use lib.ListN.{replicate}

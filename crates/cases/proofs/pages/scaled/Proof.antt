@@ -1,4 +1,4 @@
--- `cases::pages::scaled` is safe: only a usable value is rounded. Assumes nothing.
+-- `cases::pages::scaled` is safe: only a usable value is rounded.
 use mathlib.Core.Path.{sym, _∙_}
 use borrow.Author.Needs.{needs}
 use Rattle.cases.proofs.pages.scaled.Statement.{statement}

@@ -1,4 +1,4 @@
--- `cases::pages::with_page` lends as much room as the bytes that arrive need. Assumes nothing.
+-- `cases::pages::with_page` lends as much room as the bytes that arrive need.
 use mathlib.Core.Path.{sym}
 use native.Mathlib.Omega.{arith}
 use lib.ListN.{replicate}

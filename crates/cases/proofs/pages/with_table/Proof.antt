@@ -1,4 +1,4 @@
--- `cases::pages::with_table` lends as much of the room as the table of the case is long. Assumes nothing.
+-- `cases::pages::with_table` lends as much of the room as the table of the case is long.
 use mathlib.Core.Path.{sym}
 use native.Mathlib.Omega.{arith}
 use lib.Seq.{length-take-le}

@@ -1,4 +1,4 @@
--- `cases::shells::shells_of` is safe and ends: the radius grows to 33. Assumes nothing.
+-- `cases::shells::shells_of` is safe and ends: the radius grows to 33.
 use borrow.Author.Needs.{needs}
 use Prim.Native.Nat.{_-_}
 use Rattle.cases.proofs.shells.shells_of.Statement.{statement}

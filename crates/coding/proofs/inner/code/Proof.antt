@@ -1,4 +1,4 @@
--- `coding::inner::code` gives the chosen radius number and the index of the point at its radius. Assumes nothing.
+-- `coding::inner::code` gives the chosen radius number and the index of the point at its radius.
 use mathlib.Core.Path.{_∙_}
 use borrow.Author.Needs.{needs}
 use Rattle.coding.proofs.Coding.{number-is, codeword-is, zero-coded, codable}

@@ -1,4 +1,4 @@
--- `coding::inner::codeword` is the index of the point, which is on the shell of its radius. Assumes nothing.
+-- `coding::inner::codeword` is the index of the point, which is on the shell of its radius.
 use mathlib.Core.Path.{ap, _∙_}
 use borrow.Author.Needs.{needs}
 use Rattle.numbering.specs.Numbered.{indexIn}

@@ -1,4 +1,4 @@
--- `coding::inner::measure` leaves the magnitudes in the lent buffer, and gives their sum. Assumes nothing.
+-- `coding::inner::measure` leaves the magnitudes in the lent buffer, and gives their sum.
 use mathlib.Core.Path.{ap}
 use native.Mathlib.Omega.{arith}
 use borrow.Author.Needs.{needs}

@@ -1,4 +1,4 @@
--- `coding::inner::write_record` lends as much of its room as the vector is long, and writes what `code` gives. Assumes nothing.
+-- `coding::inner::write_record` lends as much of its room as the vector is long, and writes what `code` gives.
 use Prim.Native.Nat.{ℕ, _≤_}
 use mathlib.Core.List.{List}
 use mathlib.Core.Path.{sym, ap₂, _∙_}

@@ -1,4 +1,4 @@
--- `coordinates::inner::magnitude` is the absolute value, of the lowest i32 too: it is widened before it is negated. Assumes nothing.
+-- `coordinates::inner::magnitude` is the absolute value, of the lowest i32 too: it is widened before it is negated.
 use mathlib.Core.Path.{ap}
 use lib.IntN.{natAbs}
 use mir.Syntax.{w32, w64}

@@ -1,5 +1,5 @@
--- `coordinates::inner::magnitude_sum` is the radius of the vector: from the last coordinate on, what is summed is the radius of what
--- stands from `at` on, at most 2^31 for each coordinate. Assumes nothing.
+-- `coordinates::inner::magnitude_sum` is the radius of the vector: from the last coordinate on, what is summed is
+-- the radius of what stands from `at` on, at most 2^31 for each coordinate.
 use borrow.Author.Needs.{needs, sfits-of}
 use Prim.Native.Nat.{_-_, _*_, _≤_}
 use mathlib.Core.List.{_∷_}

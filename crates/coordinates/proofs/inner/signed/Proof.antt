@@ -1,4 +1,4 @@
--- `coordinates::inner::signed` is the magnitude, negated where it is to be negative. Assumes nothing.
+-- `coordinates::inner::signed` is the magnitude, negated where it is to be negative.
 use borrow.Author.Needs.{needs}
 use mathlib.Core.Path.{_∙_}
 use native.Mathlib.Omega.{arith}

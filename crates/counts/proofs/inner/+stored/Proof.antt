@@ -1,4 +1,5 @@
--- `counts::inner::stored` is what is stored, by the recurrence of the rows, at a measure of i. Each number is at most 2^31. Assumes nothing.
+-- `counts::inner::stored` is what is stored, by the recurrence of the rows, at a measure of i. Each number is at
+-- most 2^31.
 use Prim.Native.Nat.{ℕ, _+_, _-_, _/_, _<_}
 use mathlib.Core.Path.{_≡_, sym, ap₂, _∙_}
 use native.Mathlib.Nat.{div-lt-iff-lt-mul}

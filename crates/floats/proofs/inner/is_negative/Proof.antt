@@ -1,4 +1,4 @@
--- `floats::inner::is_negative` tests whether a coefficient is below zero. Assumes nothing.
+-- `floats::inner::is_negative` tests whether a coefficient is below zero.
 use mathlib.Core.Path.{refl}
 use lib.Ieee.{ofBits}
 use Rattle.floats.specs.Units.{negative}

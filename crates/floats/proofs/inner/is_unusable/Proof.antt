@@ -1,4 +1,4 @@
--- `floats::inner::is_unusable` lets through what is below 32,768 and above -32,768. Assumes nothing.
+-- `floats::inner::is_unusable` lets through what is below 32,768 and above -32,768.
 use mathlib.Core.Path.{sym}
 use denote.Floats.{passes}
 use lib.Ieee.{binary32, fits, ofBits, neg}

@@ -1,5 +1,5 @@
--- `floats::inner::nearest_whole` rounds the magnitude of a coefficient: the negation of one below zero becomes the same whole number. Assumes
--- nothing.
+-- `floats::inner::nearest_whole` rounds the magnitude of a coefficient: the negation of one below zero becomes the
+-- same whole number.
 use borrow.Author.Needs.{needs}
 use mathlib.Core.Path.{sym, _∙_}
 use denote.Floats.{passes}

@@ -1,4 +1,5 @@
--- `floats::inner::over_256` converts and divides, and neither rounds: what the cast reads back from the bits of z is z. Assumes nothing.
+-- `floats::inner::over_256` converts and divides, and neither rounds: what the cast reads back from the bits of z
+-- is z.
 use lib.Ieee.{ofBits}
 use mir.Syntax.{w32}
 use mir.Facts.{toZ-ofZ}

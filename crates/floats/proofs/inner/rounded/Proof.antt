@@ -1,5 +1,5 @@
--- `floats::inner::rounded` gives the whole number nearest to 256 times a coefficient that is not negative: the sum is 2^23 and that number, so
--- that the cast loses nothing. Assumes nothing.
+-- `floats::inner::rounded` gives the whole number nearest to 256 times a coefficient that is not negative: the sum
+-- is 2^23 and that number, so that the cast loses nothing.
 use native.Mathlib.Omega.{arith}
 use denote.Floats.{passes}
 use lib.Ieee.{binary32, fits, ofBits}

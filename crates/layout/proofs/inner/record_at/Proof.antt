@@ -1,4 +1,4 @@
--- `layout::inner::record_at` lends the 8 bytes of a record where they stand. Assumes nothing.
+-- `layout::inner::record_at` lends the 8 bytes of a record where they stand.
 use Prim.Native.Nat.{ℕ, _+_, _-_, _*_}
 use mathlib.Core.List.{List}
 use mathlib.Core.Path.{_≡_, refl, ap, _∙_}

@@ -1,4 +1,4 @@
--- `layout::inner::set_cell` stores the state, and then the record byte by byte behind it. Assumes nothing.
+-- `layout::inner::set_cell` stores the state, and then the record byte by byte behind it.
 use Prim.Native.Nat.{ℕ, _+_, _-_, _*_, _≤_}
 use mathlib.Core.Path.{_≡_, refl, ap, _∙_}
 use native.Mathlib.Omega.{arith}

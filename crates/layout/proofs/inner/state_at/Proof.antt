@@ -1,4 +1,4 @@
--- `layout::inner::state_at` reads the state where it stands. Assumes nothing.
+-- `layout::inner::state_at` reads the state where it stands.
 use mathlib.Core.Path.{refl}
 use borrow.Author.Needs.{needs}
 use Rattle.layout.specs.Layout.{stateAt}

@@ -1,4 +1,4 @@
--- `layout::inner::wrong_page` compares with the length that a page is to have. Assumes nothing.
+-- `layout::inner::wrong_page` compares with the length that a page is to have.
 use mathlib.Core.Path.{ap}
 use borrow.Author.Needs.{needs}
 use Rattle.answers.specs.Checks.{wrongLength}

@@ -1,4 +1,4 @@
--- `numbering::inner::find` looks for the range of an index. Assumes nothing.
+-- `numbering::inner::find` looks for the range of an index.
 use borrow.Author.Needs.{needs}
 use Rattle.numbering.specs.Numbered.{enumerationIn}
 use Rattle.numbering.proofs.inner.find.Statement.{statement}

@@ -1,4 +1,4 @@
--- `numbering::inner::index` is the index of the enumeration: the product index. Assumes nothing.
+-- `numbering::inner::index` is the index of the enumeration: the product index.
 use Rattle.numbering.specs.Numbered.{enumerationIn}
 use Rattle.numbering.proofs.inner.index.Statement.{statement}
 use Rattle.numbering.proofs.inner.index.Tie as tie

@@ -1,4 +1,4 @@
--- `numbering::inner::of_radius` takes the length from the row, whose enumeration is that of the numbering. Assumes nothing.
+-- `numbering::inner::of_radius` takes the length from the row, whose enumeration is that of the numbering.
 use mathlib.Core.Path.{refl}
 use borrow.Author.Needs.{needs}
 use Rattle.tables.specs.Row.{enumerationOf}

@@ -1,4 +1,4 @@
--- `numbering::inner::of_row` takes the radius from the row, by its number. Assumes nothing.
+-- `numbering::inner::of_row` takes the radius from the row, by its number.
 use borrow.Author.Needs.{needs}
 use Rattle.numbering.proofs.inner.of_row.Statement.{statement}
 use Rattle.numbering.proofs.inner.of_row.Tie as tie

@@ -1,5 +1,5 @@
--- `numbering::inner::seek` finds where an index stands that names a point; for one past the end there are as many indices as the last range ends at,
--- and what was searched to is that end. Assumes nothing.
+-- `numbering::inner::seek` finds where an index stands that names a point; for one past the end there are as many
+-- indices as the last range ends at, and what was searched to is that end.
 use Prim.Native.Nat.{ℕ, _≤_}
 use mathlib.Core.Path.{_≡_, refl, sym, ap, _∙_}
 use borrow.Author.Tests.{ltb-true, ltb-false}

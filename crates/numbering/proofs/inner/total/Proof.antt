@@ -1,4 +1,4 @@
--- `numbering::inner::total` is the total of the enumeration: N, which its ranges sum up to. Assumes nothing.
+-- `numbering::inner::total` is the total of the enumeration: N, which its ranges sum up to.
 use Rattle.numbering.specs.Numbered.{enumerationIn}
 use Rattle.numbering.proofs.inner.total.Statement.{statement}
 use Rattle.numbering.proofs.inner.total.Tie as tie

@@ -1,4 +1,4 @@
--- `numbering::inner::write_point` writes the point of the enumeration: that of the product index. Assumes nothing.
+-- `numbering::inner::write_point` writes the point of the enumeration: that of the product index.
 use mathlib.Core.Path.{_∙_}
 use borrow.Author.Needs.{needs}
 use Rattle.numbering.specs.Numbered.{enumerationIn}

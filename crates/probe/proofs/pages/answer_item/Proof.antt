@@ -1,4 +1,4 @@
--- `probe::pages::answer_item` is an item of what an answer says. Assumes nothing.
+-- `probe::pages::answer_item` is an item of what an answer says.
 use borrow.Author.Needs.{needs}
 use Rattle.probe.proofs.pages.answer_item.Statement.{statement}
 use Rattle.probe.proofs.pages.answer_item.Tie as tie

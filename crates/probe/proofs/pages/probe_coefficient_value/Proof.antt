@@ -1,4 +1,4 @@
--- `probe::pages::probe_coefficient_value` is the value that the call coefficient carries, or positive zero. Assumes nothing.
+-- `probe::pages::probe_coefficient_value` is the value that the call coefficient carries, or positive zero.
 use mathlib.Core.List.{List}
 use mathlib.Core.Path.{ap, _∙_}
 use lib.Ieee.{Float}

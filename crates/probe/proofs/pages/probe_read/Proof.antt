@@ -1,4 +1,4 @@
--- `probe::pages::probe_read` is an item of what the call read says, and leaves in the buffer what that call leaves. Assumes nothing.
+-- `probe::pages::probe_read` is an item of what the call read says, and leaves in the buffer what that call leaves.
 use Prim.Native.Nat.{ℕ}
 use mathlib.Core.List.{List}
 use mathlib.Core.Path.{ap, _∙_}

@@ -1,4 +1,4 @@
--- `probe::pages::probe_take` is an item of what the call take says, and leaves in the page what that call leaves. Assumes nothing.
+-- `probe::pages::probe_take` is an item of what the call take says, and leaves in the page what that call leaves.
 use Prim.Native.Nat.{ℕ}
 use mathlib.Core.List.{List}
 use mathlib.Core.Path.{ap, _∙_}

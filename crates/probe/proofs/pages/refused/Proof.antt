@@ -1,4 +1,4 @@
--- `probe::pages::refused` is an item of what a refusal says. Assumes nothing.
+-- `probe::pages::refused` is an item of what a refusal says.
 use borrow.Author.Needs.{needs}
 use Rattle.probe.proofs.Items.{refusal-rest}
 use Rattle.probe.proofs.pages.refused.Statement.{statement}

@@ -1,4 +1,4 @@
--- `probe::pages::take_item` is an item of what the call take says. Assumes nothing.
+-- `probe::pages::take_item` is an item of what the call take says.
 use mathlib.Core.Path.{_∙_}
 use borrow.Author.Needs.{needs}
 use Rattle.probe.proofs.Items.{taken-items}

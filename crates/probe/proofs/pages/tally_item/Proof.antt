@@ -1,4 +1,4 @@
--- `probe::pages::tally_item` is an item of what the call tally says. Assumes nothing.
+-- `probe::pages::tally_item` is an item of what the call tally says.
 use borrow.Author.Needs.{needs}
 use Rattle.probe.proofs.Items.{tally-rest}
 use Rattle.probe.proofs.pages.tally_item.Statement.{statement}

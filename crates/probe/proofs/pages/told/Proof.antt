@@ -1,4 +1,4 @@
--- `probe::pages::told` is an item of an answer and its reason. Assumes nothing.
+-- `probe::pages::told` is an item of an answer and its reason.
 use borrow.Author.Needs.{needs}
 use Rattle.probe.proofs.Items.{told-rest}
 use Rattle.probe.proofs.pages.told.Statement.{statement}

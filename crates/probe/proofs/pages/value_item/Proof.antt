@@ -1,4 +1,4 @@
--- `probe::pages::value_item` is an item of what an answer says. Assumes nothing.
+-- `probe::pages::value_item` is an item of what an answer says.
 use borrow.Author.Needs.{needs}
 use Rattle.probe.proofs.pages.value_item.Statement.{statement}
 use Rattle.probe.proofs.pages.value_item.Tie as tie

@@ -1,4 +1,4 @@
--- `ranges::inner::binomial` is what is stored at n x 16 + r, which is the same modulo 512. Assumes nothing.
+-- `ranges::inner::binomial` is what is stored at n x 16 + r, which is the same modulo 512.
 use borrow.Author.Needs.{needs}
 use Prim.Native.Nat.{_+_, _*_, _%_}
 use mathlib.Core.Path.{_≡_, ap, _∙_}

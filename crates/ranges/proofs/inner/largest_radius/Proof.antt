@@ -1,5 +1,5 @@
--- `ranges::inner::largest_radius` is the stored number at the length: each arm is its entry, and no length from 1 to 16 is left for the last.
--- Assumes nothing.
+-- `ranges::inner::largest_radius` is the stored number at the length: each arm is its entry, and no length from 1
+-- to 16 is left for the last.
 use borrow.Author.Needs.{needs}
 use Prim.Native.Nat.{ℕ, zero, suc, _≤_, _<_}
 use mathlib.Core.Path.{_≡_}

@@ -1,4 +1,4 @@
--- `ranges::inner::pattern_count` is D, a binomial; that of s = 16 is l / 16. Assumes nothing.
+-- `ranges::inner::pattern_count` is D, a binomial; that of s = 16 is l / 16.
 use borrow.Author.Needs.{needs}
 use Prim.Native.Nat.{ℕ, _/_, _≤_, _<_}
 use mathlib.Core.Path.{_≡_, refl, sym, ap, _∙_}

@@ -1,4 +1,4 @@
--- `ranges::inner::power` is 2^b: below 64 the shift loses no bit. Assumes nothing.
+-- `ranges::inner::power` is 2^b: below 64 the shift loses no bit.
 use borrow.Author.Needs.{needs}
 use native.Mathlib.Nat.{one-mul, mod-eq-of-lt}
 use lib.Pow.{pow-lt}

@@ -1,4 +1,4 @@
--- `ranges::inner::range_size` is R, the product of the three counts, none of which is large. Assumes nothing.
+-- `ranges::inner::range_size` is R, the product of the three counts, none of which is large.
 use borrow.Author.Needs.{needs}
 use Prim.Native.Nat.{_*_}
 use mathlib.Core.Path.{ap₂}

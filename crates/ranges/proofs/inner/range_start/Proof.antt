@@ -1,5 +1,5 @@
--- `ranges::inner::range_start` is O(s). The loop goes down from m: what is summed is the start of the range for i, and i stays from the smaller
--- of s and m to m. Each range ends within N, so no sum is above 2^32. Assumes nothing.
+-- `ranges::inner::range_start` is O(s). The loop goes down from m: what is summed is the start of the range for i,
+-- and i stays from the smaller of s and m to m. Each range ends within N, so no sum is above 2^32.
 use borrow.Author.Needs.{needs}
 use Prim.Native.Nat.{ℕ, _+_, _≤_, min}
 use mathlib.Core.Path.{_≡_, sym, ap, ap₂, _∙_}

@@ -1,4 +1,4 @@
--- `ranges::inner::shape_count` is S, a binomial. Assumes nothing.
+-- `ranges::inner::shape_count` is S, a binomial.
 use borrow.Author.Needs.{needs}
 use Prim.Native.Nat.{ℕ, zero, suc, _-_, _<_}
 use mathlib.Core.Path.{_≡_, _∙_}

@@ -1,4 +1,4 @@
--- `ranges::inner::sign_count` is 2^s. Assumes nothing.
+-- `ranges::inner::sign_count` is 2^s.
 use borrow.Author.Needs.{needs}
 use Rattle.counts.specs.Counts.{B}
 use Rattle.ranges.proofs.inner.sign_count.Statement.{statement}

@@ -1,4 +1,5 @@
--- `ranges::inner::total` is N: 1 at radius 0, and above it the start of the range for s = 0, which all ranges come before. Assumes nothing.
+-- `ranges::inner::total` is N: 1 at radius 0, and above it the start of the range for s = 0, which all ranges come
+-- before.
 use Prim.Native.Nat.{ℕ, zero, suc}
 use mathlib.Core.Path.{_≡_, refl, sym, _∙_}
 use Rattle.counts.specs.Counts.{N, O}

@@ -1,4 +1,4 @@
--- `records::inner::byte` is a byte of the buffer, and below 256 as every byte is. Assumes nothing.
+-- `records::inner::byte` is a byte of the buffer, and below 256 as every byte is.
 use mathlib.Core.Path.{refl}
 use native.Mathlib.Omega.{arith}
 use borrow.Author.Needs.{needs}

@@ -1,4 +1,4 @@
--- `records::inner::codeword_in` is the number of the last four bytes, two by two. Assumes nothing.
+-- `records::inner::codeword_in` is the number of the last four bytes, two by two.
 use native.Mathlib.Omega.{arith}
 use borrow.Author.Needs.{needs}
 use Rattle.octets.proofs.Reading.{four-bytes}

@@ -1,4 +1,4 @@
--- `records::inner::place_in` is the number of the first two bytes. Assumes nothing.
+-- `records::inner::place_in` is the number of the first two bytes.
 use native.Mathlib.Omega.{arith}
 use borrow.Author.Needs.{needs}
 use Rattle.octets.proofs.Reading.{two-bytes}

@@ -1,4 +1,4 @@
--- `records::inner::radius_number_in` is byte 3, the radius number. Assumes nothing.
+-- `records::inner::radius_number_in` is byte 3, the radius number.
 use mathlib.Core.Path.{sym, _∙_}
 use native.Mathlib.Omega.{arith}
 use borrow.Author.Needs.{needs}

@@ -1,4 +1,4 @@
--- `records::inner::row_in` is byte 2, the row. Assumes nothing.
+-- `records::inner::row_in` is byte 2, the row.
 use mathlib.Core.Path.{sym, _∙_}
 use native.Mathlib.Omega.{arith}
 use borrow.Author.Needs.{needs}

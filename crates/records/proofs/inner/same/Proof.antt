@@ -1,4 +1,4 @@
--- `records::inner::same` compares the bytes one by one; what is left decides as long as they are the same. Assumes nothing.
+-- `records::inner::same` compares the bytes one by one; what is left decides as long as they are the same.
 use Prim.Native.Nat.{_-_, _≤_}
 use mathlib.Core.Path.{_≡_, _∙_}
 use native.Mathlib.Omega.{arith}

@@ -1,4 +1,4 @@
--- `records::inner::write` puts the eight bytes of a record where it stands. Assumes nothing.
+-- `records::inner::write` puts the eight bytes of a record where it stands.
 use lib.Dec.{lit<}
 use lib.ListN.{length-set}
 use borrow.Author.Needs.{needs}

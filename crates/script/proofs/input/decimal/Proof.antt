@@ -1,4 +1,4 @@
--- `script::input::decimal` is safe and ends: every digit is taken once. Assumes nothing.
+-- `script::input::decimal` is safe and ends: every digit is taken once.
 use borrow.Author.Needs.{needs}
 use Prim.Native.Nat.{_-_}
 use Rattle.script.proofs.input.decimal.Statement.{statement}

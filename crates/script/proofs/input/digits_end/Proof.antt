@@ -1,4 +1,4 @@
--- `script::input::digits_end` ends where the line does at the latest. Assumes nothing.
+-- `script::input::digits_end` ends where the line does at the latest.
 use borrow.Author.Needs.{needs}
 use Prim.Native.Nat.{_-_, _≤_}
 use lib.ListN.{length}

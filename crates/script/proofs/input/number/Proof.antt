@@ -1,4 +1,4 @@
--- `script::input::number` is the number, or 0 where there is none. Assumes nothing.
+-- `script::input::number` is the number, or 0 where there is none.
 use mathlib.Core.Path.{sym}
 use native.Mathlib.Omega.{arith}
 use lib.ListN.{List·getD-eq-default}

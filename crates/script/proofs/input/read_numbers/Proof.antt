@@ -1,5 +1,5 @@
--- `script::input::read_numbers` is safe and ends: at every turn the position grows, and no more is written than there is room for. Assumes
--- nothing.
+-- `script::input::read_numbers` is safe and ends: at every turn the position grows, and no more is written than
+-- there is room for.
 use borrow.Author.Needs.{needs}
 use Prim.Native.Nat.{_-_, _≤_}
 use mathlib.Core.Path.{_≡_}

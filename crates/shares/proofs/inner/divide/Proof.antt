@@ -1,4 +1,5 @@
--- `shares::inner::divide` puts the whole parts and the remainders where they belong, coordinate by coordinate: what is not reached yet is still the magnitude. Assumes nothing.
+-- `shares::inner::divide` puts the whole parts and the remainders where they belong, coordinate by coordinate: what
+-- is not reached yet is still the magnitude.
 use borrow.Author.Needs.{needs}
 use Prim.Native.Nat.{_-_, _*_, _/_, _%_, _^_, _≤_}
 use mathlib.Core.Path.{_≡_, sym, ap, _∙_}

@@ -1,4 +1,5 @@
--- `shares::inner::give` hands out the units one by one: what is left to give, to what the buffers hold, comes to the same as all of it. Assumes nothing.
+-- `shares::inner::give` hands out the units one by one: what is left to give, to what the buffers hold, comes to
+-- the same as all of it.
 use borrow.Author.Needs.{needs}
 use Prim.Native.Nat.{_+_, _≤_, _<_}
 use mathlib.Core.Path.{_≡_, _∙_}

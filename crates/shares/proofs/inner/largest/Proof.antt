@@ -1,4 +1,5 @@
--- `shares::inner::largest` gives the first largest remainder: at each coordinate the loop has the first best of those up to it, and its remainder. Assumes nothing.
+-- `shares::inner::largest` gives the first largest remainder: at each coordinate the loop has the first best of
+-- those up to it, and its remainder.
 use borrow.Author.Needs.{needs}
 use Prim.Native.Nat.{ℕ, _+_, _-_, _≤_}
 use mathlib.Core.Path.{_≡_, refl, ap, _∙_}

@@ -1,4 +1,4 @@
--- `shares::inner::share` divides, and gives what is left of the radius to the largest remainders. Assumes nothing.
+-- `shares::inner::share` divides, and gives what is left of the radius to the largest remainders.
 use borrow.Author.Needs.{needs}
 use Rattle.shares.proofs.Divided.{summable, sum-fits, givable, given}
 use Rattle.shares.proofs.inner.share.Statement.{statement}

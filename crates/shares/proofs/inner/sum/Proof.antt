@@ -1,4 +1,4 @@
--- `shares::inner::sum` adds up from the last number. Assumes nothing.
+-- `shares::inner::sum` adds up from the last number.
 use borrow.Author.Needs.{needs}
 use Prim.Native.Nat.{_-_, _*_, _^_, _≤_}
 use mathlib.Core.Path.{_≡_, sym, ap}

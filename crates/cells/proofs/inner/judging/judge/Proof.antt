@@ -1,4 +1,4 @@
--- `cells::inner::judging::judge` judges a cell by its state. Assumes nothing.
+-- `cells::inner::judging::judge` judges a cell by its state.
 use mathlib.Core.Path.{_∙_}
 use borrow.Author.Needs.{needs}
 use Rattle.cells.proofs.Judging.{seen-as}

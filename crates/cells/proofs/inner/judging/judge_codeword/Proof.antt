@@ -1,5 +1,5 @@
--- `cells::inner::judging::judge_codeword` judges a codeword: one that names a point is sound; one past the end is past the width or mended.
--- Assumes nothing.
+-- `cells::inner::judging::judge_codeword` judges a codeword: one that names a point is sound; one past the end is
+-- past the width or mended.
 use Prim.Native.Nat.{ℕ}
 use mathlib.Core.Path.{ap₂, _∙_}
 use borrow.Author.Needs.{needs}

@@ -1,4 +1,5 @@
--- `cells::inner::judging::judge_past` judges a codeword from the total on: from 2^b on it is past the width, and below it mended. Assumes nothing.
+-- `cells::inner::judging::judge_past` judges a codeword from the total on: from 2^b on it is past the width, and
+-- below it mended.
 use Prim.Native.Nat.{ℕ, _-_, _^_}
 use mathlib.Core.Path.{_≡_, ap, _∙_}
 use native.Mathlib.Omega.{arith}

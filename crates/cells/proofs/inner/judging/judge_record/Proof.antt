@@ -1,4 +1,4 @@
--- `cells::inner::judging::judge_record` judges a held record: its row byte, its radius number, then its codeword. Assumes nothing.
+-- `cells::inner::judging::judge_record` judges a held record: its row byte, its radius number, then its codeword.
 use Prim.Native.Nat.{ℕ}
 use mathlib.Core.Path.{_≡_, sym, ap₂, _∙_}
 use native.Mathlib.Omega.{arith}

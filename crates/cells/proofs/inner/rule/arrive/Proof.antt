@@ -1,4 +1,4 @@
--- `cells::inner::rule::arrive` takes a record into the cell of its place, unless refusal 12 is given for it. Assumes nothing.
+-- `cells::inner::rule::arrive` takes a record into the cell of its place, unless refusal 12 is given for it.
 use mathlib.Core.Bool.{true, false}
 use mathlib.Core.Path.{_≡_, sym, _∙_}
 use borrow.Author.Needs.{needs}

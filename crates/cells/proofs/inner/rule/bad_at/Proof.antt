@@ -1,4 +1,4 @@
--- `cells::inner::rule::bad_at` tests the cell of a place. Assumes nothing.
+-- `cells::inner::rule::bad_at` tests the cell of a place.
 use mathlib.Core.Path.{ap, _∙_}
 use borrow.Author.Needs.{needs}
 use Rattle.layout.proofs.Cells.{same-cell}

@@ -1,4 +1,4 @@
--- `cells::inner::rule::bad_cell` is what refusal 12 tests of a cell. Assumes nothing.
+-- `cells::inner::rule::bad_cell` is what refusal 12 tests of a cell.
 use Prim.Native.Nat.{ℕ}
 use mathlib.Core.Bool.{not}
 use mathlib.Core.Path.{ap, _∙_}

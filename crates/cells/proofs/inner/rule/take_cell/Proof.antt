@@ -1,4 +1,4 @@
--- `cells::inner::rule::take_cell` is the page rule on the cell of a place. Assumes nothing.
+-- `cells::inner::rule::take_cell` is the page rule on the cell of a place.
 use Prim.Native.Nat.{ℕ}
 use mathlib.Core.Bool.{true, false}
 use mathlib.Core.List.{List}

@@ -1,5 +1,5 @@
--- `coefficients::inner::coefficients::check_coefficients` refuses the first unusable coefficient: while all before it pass, what is left of the
--- checks decides. Assumes nothing.
+-- `coefficients::inner::coefficients::check_coefficients` refuses the first unusable coefficient: while all before
+-- it pass, what is left of the checks decides.
 use borrow.Author.Needs.{needs}
 use Prim.Native.Nat.{_-_}
 use mathlib.Core.Path.{_≡_, refl, sym, _∙_}

@@ -1,4 +1,4 @@
--- `coefficients::inner::coefficients::write_magnitudes` fills the buffer with the magnitudes. Assumes nothing.
+-- `coefficients::inner::coefficients::write_magnitudes` fills the buffer with the magnitudes.
 use borrow.Author.Needs.{needs}
 use Prim.Native.Nat.{_-_, _≤_}
 use mathlib.Core.Path.{_≡_, sym, _∙_}

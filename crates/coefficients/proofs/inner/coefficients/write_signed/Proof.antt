@@ -1,4 +1,4 @@
--- `coefficients::inner::coefficients::write_signed` fills the buffer with the signed magnitudes. Assumes nothing.
+-- `coefficients::inner::coefficients::write_signed` fills the buffer with the signed magnitudes.
 use borrow.Author.Needs.{needs, sfits-of}
 use Prim.Native.Nat.{_-_, _≤_}
 use mathlib.Core.Path.{_≡_, sym, ap, _∙_}

@@ -1,5 +1,5 @@
--- `coefficients::inner::radius::choose` gives the chosen radius number: at each number the loop has the first best of those up to it, and by how much
--- that one misses. Assumes nothing.
+-- `coefficients::inner::radius::choose` gives the chosen radius number: at each number the loop has the first best
+-- of those up to it, and by how much that one misses.
 use borrow.Author.Needs.{needs}
 use Prim.Native.Nat.{_-_, _≤_}
 use mathlib.Core.Path.{_≡_, ap, _∙_}

@@ -1,4 +1,4 @@
--- `coefficients::inner::radius::miss_by` works out |A - k x step|. Assumes nothing.
+-- `coefficients::inner::radius::miss_by` works out |A - k x step|.
 use Prim.Native.Nat.{_*_, _≤_}
 use mathlib.Core.Path.{refl, _∙_}
 use native.Mathlib.Nat.{le-of-lt, lt-of-le-of-lt, mul-le-mul}

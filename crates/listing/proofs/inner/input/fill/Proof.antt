@@ -1,4 +1,4 @@
--- `listing::inner::input::fill` fills a block with what comes, and answers how much that is. Assumes nothing.
+-- `listing::inner::input::fill` fills a block with what comes, and answers how much that is.
 use Prim.Native.Nat.{_-_, _≤_}
 use mathlib.Core.Path.{_≡_, refl, sym, _∙_}
 use native.Mathlib.Omega.{arith}

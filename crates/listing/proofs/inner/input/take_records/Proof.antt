@@ -1,4 +1,4 @@
--- `listing::inner::input::take_records` takes block after block; in each no more takes are refused than it has parts. Assumes nothing.
+-- `listing::inner::input::take_records` takes block after block; in each no more takes are refused than it has parts.
 use Prim.Native.Nat.{_-_, _*_, _≤_}
 use mathlib.Core.Path.{_≡_, refl, sym, _∙_}
 use native.Mathlib.Nat.{le-of-eq}

@@ -1,5 +1,5 @@
--- `listing::inner::output::print_page` prints block after block of what the call lines has written, each behind the one before, and then the last line. Assumes
--- nothing.
+-- `listing::inner::output::print_page` prints block after block of what the call lines has written, each behind the
+-- one before, and then the last line.
 use Prim.Native.Nat.{_-_, _≤_}
 use mathlib.Core.Path.{_≡_, sym, ap, _∙_}
 use native.Mathlib.Omega.{arith}

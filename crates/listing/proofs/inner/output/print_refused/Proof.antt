@@ -1,4 +1,4 @@
--- `listing::inner::output::print_refused` prints what the call refused_line has written. Assumes nothing.
+-- `listing::inner::output::print_refused` prints what the call refused_line has written.
 use borrow.Author.Needs.{needs}
 use Rattle.report.specs.Calls.{sizeLined}
 use Rattle.listing.proofs.Parts.{part-fits, part-size}

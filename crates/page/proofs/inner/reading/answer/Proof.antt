@@ -1,4 +1,4 @@
--- `page::inner::reading::answer` tells the answer and its reason. Assumes nothing.
+-- `page::inner::reading::answer` tells the answer and its reason.
 use mathlib.Core.Path.{sym, ap}
 use borrow.Author.Needs.{needs}
 use Rattle.rules.specs.Reading.{told}

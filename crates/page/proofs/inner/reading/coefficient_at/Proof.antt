@@ -1,5 +1,5 @@
--- `page::inner::reading::coefficient_at` says and carries what the call coefficient is to say and carry in the row of a place: refusals 13 and 12; or the
--- answer of the coefficient, with its value. Assumes nothing.
+-- `page::inner::reading::coefficient_at` says and carries what the call coefficient is to say and carry in the row
+-- of a place: refusals 13 and 12; or the answer of the coefficient, with its value.
 use mathlib.Core.Path.{refl, ap, _∙_}
 use native.Mathlib.Omega.{arith}
 use borrow.Author.Needs.{needs}

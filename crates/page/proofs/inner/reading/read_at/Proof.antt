@@ -1,5 +1,5 @@
--- `page::inner::reading::read_at` says and leaves what the call read is to say and leave in the row of a place: refusals 4 and 12, and the buffer as it was;
--- or the answer of the place, and what it shows. Assumes nothing.
+-- `page::inner::reading::read_at` says and leaves what the call read is to say and leave in the row of a place:
+-- refusals 4 and 12, and the buffer as it was; or the answer of the place, and what it shows.
 use mathlib.Core.Path.{refl, sym, ap, _∙_}
 use lib.ListN.{length}
 use borrow.Author.Needs.{needs}

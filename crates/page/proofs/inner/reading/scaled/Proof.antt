@@ -1,4 +1,4 @@
--- `page::inner::reading::scaled` multiplies in whole numbers, converts and divides: none of it loses anything. Assumes nothing.
+-- `page::inner::reading::scaled` multiplies in whole numbers, converts and divides: none of it loses anything.
 use mathlib.Core.Path.{ap, _∙_}
 use lib.IntN.{ℤ}
 use mir.Facts.{toZ-ofZ}

@@ -1,4 +1,4 @@
--- `page::inner::reading::value_of` writes what is shown into room of its own, reads the coordinate and scales it. Assumes nothing.
+-- `page::inner::reading::value_of` writes what is shown into room of its own, reads the coordinate and scales it.
 use Prim.Native.Nat.{ℕ}
 use mathlib.Core.Path.{sym, ap, ap₂, _∙_}
 use native.Mathlib.Omega.{arith}

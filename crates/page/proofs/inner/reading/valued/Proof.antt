@@ -1,4 +1,4 @@
--- `page::inner::reading::valued` tells the answer of a coefficient, and its value where there is one. Assumes nothing.
+-- `page::inner::reading::valued` tells the answer of a coefficient, and its value where there is one.
 use mathlib.Core.Path.{refl}
 use borrow.Author.Needs.{needs}
 use Rattle.page.proofs.inner.reading.valued.Statement.{statement}

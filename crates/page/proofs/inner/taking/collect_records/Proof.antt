@@ -1,4 +1,4 @@
--- `page::inner::taking::collect_records` takes the parts in turn; what is left of the run decides. Assumes nothing.
+-- `page::inner::taking::collect_records` takes the parts in turn; what is left of the run decides.
 use Prim.Native.Nat.{_-_, _≤_}
 use mathlib.Core.Path.{_≡_, refl, ap, _∙_}
 use native.Mathlib.Omega.{arith}

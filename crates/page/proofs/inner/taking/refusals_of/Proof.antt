@@ -1,4 +1,4 @@
--- `page::inner::taking::refusals_of` counts a refusal as 1. Assumes nothing.
+-- `page::inner::taking::refusals_of` counts a refusal as 1.
 use mathlib.Core.Path.{sym, ap, _∙_}
 use native.Mathlib.Omega.{arith}
 use borrow.Author.Needs.{needs}

@@ -1,5 +1,5 @@
--- `page::inner::taking::take_record` says and leaves what the call take is to say and leave behind the checks of the table and the page: refusals 4, 8
--- and 12, and the page as it was; or the record in the cell of its place. Assumes nothing.
+-- `page::inner::taking::take_record` says and leaves what the call take is to say and leave behind the checks of
+-- the table and the page: refusals 4, 8 and 12, and the page as it was; or the record in the cell of its place.
 use mathlib.Core.Path.{sym, _∙_}
 use lib.ListN.{length}
 use borrow.Author.Needs.{needs}

@@ -1,5 +1,5 @@
--- `page::inner::tallying::tally_page` says what the call tally is to say behind the checks of the table and the page: refusal 12, with the lowest place; or
--- the five counts. Assumes nothing.
+-- `page::inner::tallying::tally_page` says what the call tally is to say behind the checks of the table and the
+-- page: refusal 12, with the lowest place; or the five counts.
 use Prim.Native.Nat.{_-_}
 use mathlib.Core.List.{List}
 use mathlib.Core.Path.{ap, _∙_}

@@ -1,5 +1,6 @@
--- `pairing::inner::survey::survey` says what the checks of a table say, with the places and the row of the place where they pass. Of the rows
--- from `at` on, what is left of the checks decides; the places and the row are those of the rows before. Assumes nothing.
+-- `pairing::inner::survey::survey` says what the checks of a table say, with the places and the row of the place
+-- where they pass. Of the rows from `at` on, what is left of the checks decides; the places and the row are those
+-- of the rows before.
 use borrow.Author.Needs.{needs}
 use Prim.Native.Nat.{ℕ, suc, _+_, _-_, _≤_}
 use mathlib.Core.Path.{_≡_, refl, sym, ap, ap₂, _∙_}

@@ -1,4 +1,4 @@
--- `pairing::inner::survey::survey_place` surveys the table, and then looks at the place. Assumes nothing.
+-- `pairing::inner::survey::survey_place` surveys the table, and then looks at the place.
 use mathlib.Core.List.{[], _∷_}
 use borrow.Author.Needs.{needs}
 use Rattle.tables.proofs.PlaceChecks.{no-place, some-place}

@@ -1,4 +1,4 @@
--- `pairing::inner::survey::wrong_size`: none, more than 512 bytes, or no whole rows. Assumes nothing.
+-- `pairing::inner::survey::wrong_size`: none, more than 512 bytes, or no whole rows.
 use Prim.Native.Nat.{_%_}
 use mathlib.Core.Path.{sym}
 use mathlib.Core.Bool.{not, or-false}

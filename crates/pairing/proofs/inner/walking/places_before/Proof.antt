@@ -1,4 +1,4 @@
--- `pairing::inner::walking::places_before` sums the places of the rows before one. Assumes nothing.
+-- `pairing::inner::walking::places_before` sums the places of the rows before one.
 use Prim.Native.Nat.{_-_, _≤_}
 use mathlib.Core.Path.{_≡_, ap, _∙_}
 use native.Mathlib.Numerals.{add-one}

@@ -1,4 +1,4 @@
--- `pairing::inner::walking::walk_from` begins the way at a place, in its row and no other. Assumes nothing.
+-- `pairing::inner::walking::walk_from` begins the way at a place, in its row and no other.
 use native.Mathlib.Omega.{arith}
 use Rattle.tables.proofs.Good.{right-size}
 use Rattle.tables.proofs.Walking.{row-in-table, at-place}

@@ -1,4 +1,4 @@
--- `pairing::inner::walking::walked` finds the row of a place from that of the place before it. Assumes nothing.
+-- `pairing::inner::walking::walked` finds the row of a place from that of the place before it.
 use mathlib.Core.Path.{_∙_, ap}
 use native.Mathlib.Omega.{arith}
 use borrow.Author.Needs.{needs}

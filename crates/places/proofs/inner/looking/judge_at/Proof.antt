@@ -1,4 +1,4 @@
--- `places::inner::looking::judge_at` judges the cell of a place. Assumes nothing.
+-- `places::inner::looking::judge_at` judges the cell of a place.
 use borrow.Author.Needs.{needs}
 use Rattle.layout.proofs.Cells.{same-cell}
 use Rattle.places.proofs.inner.looking.judge_at.Statement.{statement}

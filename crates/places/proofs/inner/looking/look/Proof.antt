@@ -1,4 +1,4 @@
--- `places::inner::looking::look` gives refusal 12 for the cell of a place, or the cell's answer. Assumes nothing.
+-- `places::inner::looking::look` gives refusal 12 for the cell of a place, or the cell's answer.
 use mathlib.Core.Path.{sym, _∙_}
 use borrow.Author.Needs.{needs}
 use Rattle.places.proofs.inner.looking.look.Statement.{statement}

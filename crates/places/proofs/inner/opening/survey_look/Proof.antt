@@ -1,4 +1,4 @@
--- `places::inner::opening::survey_look` surveys the table and the place, and then looks at the length of the page. Assumes nothing.
+-- `places::inner::opening::survey_look` surveys the table and the place, and then looks at the length of the page.
 use mathlib.Core.List.{[], _∷_}
 use native.Mathlib.Omega.{arith}
 use borrow.Author.Needs.{needs}

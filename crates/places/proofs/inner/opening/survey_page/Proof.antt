@@ -1,4 +1,4 @@
--- `places::inner::opening::survey_page` surveys the table, and then looks at the length of the page. Assumes nothing.
+-- `places::inner::opening::survey_page` surveys the table, and then looks at the length of the page.
 use mathlib.Core.List.{[], _∷_}
 use native.Mathlib.Omega.{arith}
 use borrow.Author.Needs.{needs}

@@ -1,4 +1,4 @@
--- `places::inner::showing::clear` writes zeros, one after the other. Assumes nothing.
+-- `places::inner::showing::clear` writes zeros, one after the other.
 use Prim.Native.Nat.{_-_, _≤_}
 use mathlib.Core.Path.{_≡_, refl, sym, _∙_}
 use native.Mathlib.Nat.{zero-add}

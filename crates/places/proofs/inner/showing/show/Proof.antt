@@ -1,4 +1,4 @@
--- `places::inner::showing::show` writes what a place shows. Assumes nothing.
+-- `places::inner::showing::show` writes what a place shows.
 use Prim.Native.Nat.{ℕ}
 use mathlib.Core.Path.{ap, _∙_}
 use lib.IntN.{pos}

@@ -1,4 +1,4 @@
--- `places::inner::showing::write_found` writes the point of an index that was found. Assumes nothing.
+-- `places::inner::showing::write_found` writes the point of an index that was found.
 use mathlib.Core.Path.{sym, _∙_}
 use borrow.Author.Needs.{needs}
 use Rattle.numbering.proofs.OfRow.{point-of}

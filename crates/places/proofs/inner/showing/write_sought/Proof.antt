@@ -1,4 +1,4 @@
--- `places::inner::showing::write_sought` looks for an index and writes its point. Assumes nothing.
+-- `places::inner::showing::write_sought` looks for an index and writes its point.
 use mathlib.Core.Path.{sym, _∙_}
 use borrow.Author.Needs.{needs}
 use Rattle.numbering.proofs.OfRow.{point-of, usable-of}

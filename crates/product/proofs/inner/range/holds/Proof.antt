@@ -1,5 +1,5 @@
--- `product::inner::range::holds` tells whether the index is below N: a range from 1 on is found exactly for such an index, but at radius 0.
--- Assumes nothing.
+-- `product::inner::range::holds` tells whether the index is below N: a range from 1 on is found exactly for such an
+-- index, but at radius 0.
 use Prim.Native.Nat.{ℕ, zero, suc}
 use mathlib.Core.Path.{_≡_, sym, _∙_}
 use native.Mathlib.Omega.{arith}

@@ -1,5 +1,6 @@
--- `product::inner::read::components_at` gives the components of the point of an index: the signs are the low bits of its position in the range, and
--- the pattern and the shape are quotient and remainder of the rest by the shape count. Assumes nothing.
+-- `product::inner::read::components_at` gives the components of the point of an index: the signs are the low bits
+-- of its position in the range, and the pattern and the shape are quotient and remainder of the rest by the shape
+-- count.
 use native.Mathlib.Omega.{arith}
 use Rattle.product.proofs.Located.{start-to, s-to-most, block-below, shapes-from, components-there, no-components}
 use Rattle.product.proofs.inner.read.components_at.Statement.{statement}

@@ -1,4 +1,4 @@
--- `product::inner::read::next` gives the first coordinate of the point and the components of the rest. Assumes nothing.
+-- `product::inner::read::next` gives the first coordinate of the point and the components of the rest.
 use native.Mathlib.Omega.{arith}
 use Rattle.product.proofs.Writing.{s-to, zero-next, nonzero-there, nonzero-next}
 use Rattle.product.proofs.inner.read.next.Statement.{statement}

@@ -1,4 +1,4 @@
--- `product::inner::read::nonzero` takes the next magnitude of the shape, with the sign of its bit. Assumes nothing.
+-- `product::inner::read::nonzero` takes the next magnitude of the shape, with the sign of its bit.
 use borrow.Author.Needs.{needs, sfits-of}
 use mathlib.Core.Path.{_∙_}
 use mir.Syntax.{w32}

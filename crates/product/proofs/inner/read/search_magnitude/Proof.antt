@@ -1,6 +1,6 @@
--- `product::inner::read::search_magnitude` is the first magnitude and the number of the shape that is left. The loop passes the shapes that begin
--- with 1, 2 and so on: with k left to sum to after the first magnitude, what is left of the number is that of a shape which sums to k+1.
--- Assumes nothing.
+-- `product::inner::read::search_magnitude` is the first magnitude and the number of the shape that is left. The
+-- loop passes the shapes that begin with 1, 2 and so on: with k left to sum to after the first magnitude, what is
+-- left of the number is that of a shape which sums to k+1.
 use Prim.Native.Nat.{ℕ, suc, _+_, _-_, _≤_, _<_}
 use mathlib.Core.Path.{_≡_, refl, sym, _∙_}
 use native.Mathlib.Omega.{arith}

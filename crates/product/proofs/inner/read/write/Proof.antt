@@ -1,5 +1,5 @@
--- `product::inner::read::write` writes the point: at each turn the coordinates before `at` stand there, and the rest is what is left to write.
--- Assumes nothing.
+-- `product::inner::read::write` writes the point: at each turn the coordinates before `at` stand there, and the
+-- rest is what is left to write.
 use borrow.Author.Needs.{needs, sfits-of}
 use Prim.Native.Nat.{suc, _-_, _≤_}
 use mathlib.Core.Path.{_≡_, refl}

@@ -1,4 +1,4 @@
--- `product::inner::read::write_point` writes the point of the index. Assumes nothing.
+-- `product::inner::read::write_point` writes the point of the index.
 use borrow.Author.Needs.{needs}
 use mathlib.Core.Path.{sym, ap, _∙_}
 use Rattle.product.specs.Components.{writtenFrom}

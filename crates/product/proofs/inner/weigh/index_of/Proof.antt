@@ -1,4 +1,4 @@
--- `product::inner::weigh::index_of` is the product index: what the weight of the point makes up. Assumes nothing.
+-- `product::inner::weigh::index_of` is the product index: what the weight of the point makes up.
 use borrow.Author.Needs.{needs}
 use mathlib.Core.Path.{ap, _∙_}
 use Rattle.product.specs.Weights.{weighed}

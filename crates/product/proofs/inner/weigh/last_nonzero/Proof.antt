@@ -1,4 +1,4 @@
--- `product::inner::weigh::last_nonzero` is what a nonzero coordinate adds to nothing: D(1,l) is l, and S(1,0) is 0. Assumes nothing.
+-- `product::inner::weigh::last_nonzero` is what a nonzero coordinate adds to nothing: D(1,l) is l, and S(1,0) is 0.
 use borrow.Author.Needs.{needs}
 use mathlib.Core.Path.{refl}
 use native.Mathlib.Omega.{arith}

@@ -1,4 +1,4 @@
--- `product::inner::weigh::sign_weight` is the bit of a negative coordinate, and 0 of another. Assumes nothing.
+-- `product::inner::weigh::sign_weight` is the bit of a negative coordinate, and 0 of another.
 use borrow.Author.Needs.{needs}
 use mathlib.Core.Path.{sym, _∙_}
 use native.Mathlib.Nat.{one-mul, zero-mul}

@@ -1,4 +1,4 @@
--- `product::inner::weigh::weigh` is the index that the weight makes up. Assumes nothing.
+-- `product::inner::weigh::weigh` is the index that the weight makes up.
 use borrow.Author.Needs.{needs}
 use Rattle.enumeration.specs.Product.{indexFrom}
 use Rattle.product.proofs.inner.weigh.weigh.Statement.{statement}

@@ -1,4 +1,5 @@
--- `product::inner::weigh::weight_of` gives the weight of the whole point: at each turn it is that of what stands from `at` on. Assumes nothing.
+-- `product::inner::weigh::weight_of` gives the weight of the whole point: at each turn it is that of what stands
+-- from `at` on.
 use Prim.Native.Nat.{suc, _-_, _≤_}
 use mathlib.Core.Path.{_≡_}
 use mathlib.Core.List.{List}

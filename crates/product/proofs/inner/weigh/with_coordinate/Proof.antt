@@ -1,5 +1,5 @@
--- `product::inner::weigh::with_coordinate` gives the weight of what stands from `at` on: a zero adds nothing, and another coordinate adds what its
--- magnitude and its sign say. Assumes nothing.
+-- `product::inner::weigh::with_coordinate` gives the weight of what stands from `at` on: a zero adds nothing, and
+-- another coordinate adds what its magnitude and its sign say.
 use borrow.Author.Needs.{needs, sfits-of}
 use Prim.Native.Nat.{ℕ, _-_}
 use mathlib.Core.Path.{_≡_, ap, _∙_}

@@ -1,4 +1,4 @@
--- `product::inner::weigh::with_nonzero` adds the coordinate to others, to one, or to nothing. Assumes nothing.
+-- `product::inner::weigh::with_nonzero` adds the coordinate to others, to one, or to nothing.
 use borrow.Author.Needs.{needs}
 use mathlib.Core.Path.{sym, ap, _∙_}
 use Rattle.product.specs.Weights.{extended}

@@ -1,4 +1,5 @@
--- `product::inner::weigh::with_one_other` adds to each number what the definitions say, with D(2,l) and S(2,k) as formulas. Assumes nothing.
+-- `product::inner::weigh::with_one_other` adds to each number what the definitions say, with D(2,l) and S(2,k) as
+-- formulas.
 use borrow.Author.Needs.{needs}
 use Prim.Native.Nat.{ℕ, _+_}
 use mathlib.Core.Path.{refl, sym, ap}

@@ -1,5 +1,5 @@
--- `product::inner::weigh::with_others` adds to each number what the definitions say; what is asked of it tells that the sums are small.
--- Assumes nothing.
+-- `product::inner::weigh::with_others` adds to each number what the definitions say; what is asked of it tells that
+-- the sums are small.
 use borrow.Author.Needs.{needs}
 use Prim.Native.Nat.{ℕ, _+_}
 use mathlib.Core.Path.{refl, ap}

@@ -1,4 +1,4 @@
--- `report::inner::block::check_cells` gives the first refusal 12 among some places, and passes if there is none. Assumes nothing.
+-- `report::inner::block::check_cells` gives the first refusal 12 among some places, and passes if there is none.
 use Prim.Native.Nat.{_-_}
 use mathlib.Core.List.{[], _∷_}
 use mathlib.Core.Path.{_≡_, refl, sym, _∙_}

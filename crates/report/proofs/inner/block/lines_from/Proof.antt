@@ -1,4 +1,5 @@
--- `report::inner::block::lines_from` gives what the call lines is to say and leave behind the checks of the table, the place and the page. Assumes nothing.
+-- `report::inner::block::lines_from` gives what the call lines is to say and leave behind the checks of the table,
+-- the place and the page.
 use mathlib.Core.Path.{sym, ap, _∙_}
 use borrow.Author.Needs.{needs}
 use Rattle.answers.specs.Refusals.{verdictMeaning}

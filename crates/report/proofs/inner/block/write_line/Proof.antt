@@ -1,4 +1,4 @@
--- `report::inner::block::write_line` writes the line of a place in its row, by way of a point in room of its own. Assumes nothing.
+-- `report::inner::block::write_line` writes the line of a place in its row, by way of a point in room of its own.
 use mathlib.Core.Path.{sym, _∙_}
 use native.Mathlib.Omega.{arith}
 use lib.IntN.{pos}

@@ -1,4 +1,4 @@
--- `report::inner::block::write_lines` writes the lines of some places, row by row. Assumes nothing.
+-- `report::inner::block::write_lines` writes the lines of some places, row by row.
 use Prim.Native.Nat.{_-_, _≤_}
 use mathlib.Core.Path.{_≡_}
 use native.Mathlib.Omega.{arith}

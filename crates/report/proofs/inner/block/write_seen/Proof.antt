@@ -1,4 +1,4 @@
--- `report::inner::block::write_seen` writes the line of a place where this was seen. Assumes nothing.
+-- `report::inner::block::write_seen` writes the line of a place where this was seen.
 use borrow.Author.Needs.{needs}
 use Rattle.report.proofs.inner.block.write_seen.Statement.{statement}
 use Rattle.report.proofs.inner.block.write_seen.Tie as tie

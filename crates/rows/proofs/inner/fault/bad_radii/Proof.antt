@@ -1,4 +1,4 @@
--- `rows::inner::fault::bad_radii`: the positions before `number` are found good. Assumes nothing.
+-- `rows::inner::fault::bad_radii`: the positions before `number` are found good.
 use borrow.Author.Needs.{needs}
 use Prim.Native.Nat.{_-_, _≤_}
 use mathlib.Core.Path.{_≡_, refl, sym, _∙_}

@@ -1,4 +1,5 @@
--- `rows::inner::fault::bad_radius`: an unused position is held to 0, and a used one to the order and to the largest radius. Assumes nothing.
+-- `rows::inner::fault::bad_radius`: an unused position is held to 0, and a used one to the order and to the largest
+-- radius.
 use Prim.Native.Nat.{ℕ}
 use mathlib.Core.Path.{_≡_, sym, ap, ap₂, _∙_}
 use mathlib.Core.Bool.{not}

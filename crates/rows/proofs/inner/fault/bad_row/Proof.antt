@@ -1,4 +1,4 @@
--- `rows::inner::fault::bad_row`: the fields of a row are judged from the front. Assumes nothing.
+-- `rows::inner::fault::bad_row`: the fields of a row are judged from the front.
 use mathlib.Core.Path.{sym, _∙_}
 use native.Mathlib.Omega.{arith}
 use borrow.Author.Tests.{lt-ltb, le-ltb}

@@ -1,4 +1,4 @@
--- `rows::inner::fault::bad_tail`: a step of 0, no places, or a byte of the last two that is not 0. Assumes nothing.
+-- `rows::inner::fault::bad_tail`: a step of 0, no places, or a byte of the last two that is not 0.
 use Prim.Native.Nat.{ℕ}
 use mathlib.Core.Path.{ap}
 use mathlib.Core.Bool.{not, or-false}

@@ -1,4 +1,4 @@
--- `rows::inner::fault::out_of_order`: the first radius is held to 0, and each other to the one before. Assumes nothing.
+-- `rows::inner::fault::out_of_order`: the first radius is held to 0, and each other to the one before.
 use mathlib.Core.Path.{_∙_, ap₂}
 use lib.Dec.{leb}
 use Rattle.tables.proofs.Faults.{next-says}

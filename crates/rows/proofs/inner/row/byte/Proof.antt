@@ -1,4 +1,4 @@
--- `rows::inner::row::byte` is a byte of the row, and below 256 as every byte is. Assumes nothing.
+-- `rows::inner::row::byte` is a byte of the row, and below 256 as every byte is.
 use mathlib.Core.Path.{refl}
 use native.Mathlib.Omega.{arith}
 use Rattle.tables.specs.Row.{byteOf}

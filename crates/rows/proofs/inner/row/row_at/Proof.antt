@@ -1,4 +1,4 @@
--- `rows::inner::row::row_at` lends the 16 bytes of a row. Assumes nothing.
+-- `rows::inner::row::row_at` lends the 16 bytes of a row.
 use Prim.Native.Nat.{ℕ, _+_, _-_, _*_}
 use mathlib.Core.List.{List}
 use mathlib.Core.Path.{_≡_, refl, ap, _∙_}

@@ -1,4 +1,5 @@
--- `text::inner::fields::write_digits` writes the decimal digits of a number: the measure is the number itself, and its tenth is smaller. Assumes nothing.
+-- `text::inner::fields::write_digits` writes the decimal digits of a number: the measure is the number itself, and
+-- its tenth is smaller.
 use Prim.Native.Nat.{ℕ, _<_}
 use borrow.Author.Needs.{needs}
 use borrow.Fn.Kinds.{In}

@@ -1,4 +1,4 @@
--- `text::inner::fields::write_decimal` writes the decimal digits of a number, one by itself. Assumes nothing.
+-- `text::inner::fields::write_decimal` writes the decimal digits of a number, one by itself.
 use borrow.Author.Needs.{needs}
 use Rattle.text.proofs.Writing.{digit-written}
 use Rattle.text.proofs.inner.fields.write_decimal.Statement.{statement}

@@ -1,4 +1,4 @@
--- `text::inner::fields::write_integer` writes a space and an integer, the lowest i32 too. Assumes nothing.
+-- `text::inner::fields::write_integer` writes a space and an integer, the lowest i32 too.
 use borrow.Author.Needs.{needs}
 use mathlib.Core.Path.{ap, _∙_}
 use lib.IntN.{natAbs}

@@ -1,4 +1,4 @@
--- `text::inner::fields::write_number` writes a space and a decimal number. Assumes nothing.
+-- `text::inner::fields::write_number` writes a space and a decimal number.
 use borrow.Author.Needs.{needs}
 use Rattle.buffers.proofs.Writing.{wrote-then}
 use Rattle.text.proofs.inner.fields.write_number.Statement.{statement}

@@ -1,4 +1,4 @@
--- `text::inner::fields::write_text` writes a text as it stands, byte by byte. Assumes nothing.
+-- `text::inner::fields::write_text` writes a text as it stands, byte by byte.
 use Prim.Native.Nat.{_+_, _-_, _≤_}
 use mathlib.Core.Path.{_≡_, refl, _∙_}
 use native.Mathlib.Omega.{arith}

@@ -1,4 +1,4 @@
--- `text::inner::fields::write_word` writes a space and the word of an answer. Assumes nothing.
+-- `text::inner::fields::write_word` writes a space and the word of an answer.
 use mathlib.Core.Path.{refl}
 use borrow.Author.Needs.{needs}
 use lib.Dec.{lit≤}

@@ -1,4 +1,4 @@
--- `text::inner::lines::write_last_line` writes the word and the numbers behind it. Assumes nothing.
+-- `text::inner::lines::write_last_line` writes the word and the numbers behind it.
 use mathlib.Core.List.{[], map}
 use native.Mathlib.Omega.{arith}
 use borrow.Author.Needs.{needs}

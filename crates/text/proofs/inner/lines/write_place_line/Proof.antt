@@ -1,4 +1,4 @@
--- `text::inner::lines::write_place_line` writes the line of a place, field by field. Assumes nothing.
+-- `text::inner::lines::write_place_line` writes the line of a place, field by field.
 use mathlib.Core.List.{[], _∷_, map}
 use native.Mathlib.Omega.{arith}
 use borrow.Author.Needs.{needs}

@@ -1,4 +1,4 @@
--- `text::inner::lines::write_refused_line` writes the word and the number behind it. Assumes nothing.
+-- `text::inner::lines::write_refused_line` writes the word and the number behind it.
 use mathlib.Core.List.{[], _∷_}
 use borrow.Author.Needs.{needs}
 use lib.Dec.{lit≤}
