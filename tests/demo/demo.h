@@ -70,7 +70,7 @@ void show(const struct bands *received, struct picture *to);
 uint64_t pixels_not_as_sent(const struct picture *shown);
 void print_pictures(const struct picture *shown);
 
-/* coding.c: the sender's records of a picture, and what a slate makes of all that came */
+/* coding.c: the sender's records of a picture, the pixels of a place, and what a slate makes of all that came */
 extern const struct table demo_table;
 struct box box_of(uint64_t place);
 void code(const struct bands *bands, struct sent *to);
