@@ -41,6 +41,18 @@ static struct spot spot(uint64_t place, uint64_t coordinate)
     };
 }
 
+/* A coefficient is of 2 by 2 pixels. */
+struct box box_of(uint64_t place)
+{
+    const struct spot first = spot(place, 0);
+    return (struct box){
+        .column = 2 * first.column,
+        .line = 2 * first.line,
+        .columns = 2 * pieces[first.band].columns,
+        .lines = 2 * pieces[first.band].lines,
+    };
+}
+
 static uint64_t length_at(uint64_t place)
 {
     return row_at(&demo_table, place)[AT_LENGTH];

@@ -1,10 +1,13 @@
-/* The parts of the maker of demo/: a picture, its sender, the radio and a slate. The sender and the slate use our own calls, which probe.h
-   declares; what came is judged by the rules of the second program. */
+/* The parts of the maker of demo/: a picture, its sender, the radio, a slate and a drawing. The sender and the slate
+   use our own calls, which probe.h declares; what came is judged by the rules of the second program. */
 
 #ifndef DEMO_DEMO_H
 #define DEMO_DEMO_H
 
 #include "../listing/listing.h"
+
+/* What the drawing uses of the C library beside what listing.h declares. */
+__attribute__((format(printf, 2, 3))) int fprintf(struct file *to, const char *format, ...);
 
 enum {
     COLUMNS = 24, /* of the picture, in pixels */
@@ -15,6 +18,12 @@ enum {
     PLACES = 54
 };
 
+/* A picture: # is ink, + half ink, and a dot paper. A zero ends each line. */
+enum { INK = '#', HALF_INK = '+', PAPER = '.' };
+struct picture {
+    char pixels[LINES][COLUMNS + 1];
+};
+
 /* The coefficients of a picture. */
 struct bands {
     float at[BANDS][BAND_LINES][BAND_COLUMNS];
@@ -23,6 +32,14 @@ struct bands {
 /* The record of each place, as it is sent. */
 struct sent {
     uint8_t records[PLACES][RECORD_SIZE];
+};
+
+/* The pixels that a place covers. */
+struct box {
+    uint64_t column;
+    uint64_t line;
+    uint64_t columns;
+    uint64_t lines;
 };
 
 /* What becomes of a place, judged by what was sent for it. */
@@ -39,13 +56,23 @@ enum fate {
     FATES /* how many there are */
 };
 
-/* picture.c: the picture, into bands and back */
-void split(struct bands *to);
-uint64_t pixels_not_as_sent(const struct bands *received);
-void print_pictures(const struct bands *received);
+/* What became of the page. */
+struct fates {
+    enum reading_word answers[PLACES];
+    enum fate at[PLACES];
+    uint64_t refused; /* takes */
+};
 
-/* coding.c: the sender's records of a picture, and what a slate makes of all that came */
+/* picture.c: the picture, into bands and back */
+extern const struct picture picture_sent;
+void split(struct bands *to);
+void show(const struct bands *received, struct picture *to);
+uint64_t pixels_not_as_sent(const struct picture *shown);
+void print_pictures(const struct picture *shown);
+
+/* coding.c: the sender's records of a picture, the pixels of a place, and what a slate makes of all that came */
 extern const struct table demo_table;
+struct box box_of(uint64_t place);
 void code(const struct bands *bands, struct sent *to);
 void receive(const struct capture *capture, struct bands *to);
 
@@ -53,7 +80,11 @@ void receive(const struct capture *capture, struct bands *to);
 enum fate fate_meant(uint64_t place);
 void broadcast(const struct sent *sent, struct capture *to);
 
-/* fates.c: an error if a place has another fate than is meant, or no place has one of the fates */
-void require_fates(const struct sent *sent, const struct capture *capture);
+/* fates.c: the fates, and an error if a place has another one than is meant, or no place has one of them */
+void judge_fates(const struct sent *sent, const struct capture *capture, struct fates *to);
+void require_fates(const struct fates *fates, const struct capture *capture);
+
+/* drawing.c: the pictures and what became of each place, as an SVG file */
+void write_drawing(const char *folder, const char *name, const struct picture *shown, const struct fates *fates);
 
 #endif

@@ -35,24 +35,34 @@ static enum fate fate_of(struct reading reading, struct reading sent)
     return fate_of_point(reading, sent);
 }
 
-/* Both kinds of takes that are refused: of a place that is not in the table, and of a short last part. */
-static void require_refused(const struct gathering *gathering, const struct capture *capture)
-{
-    const uint64_t parts = capture->size % RECORD_SIZE != 0;
-    require(parts, 1, "demo,", "short last parts");
-    require(gathering->refused - parts, 1, "demo,", "records of places that are not in the table");
-}
-
-void require_fates(const struct sent *sent, const struct capture *capture)
+void judge_fates(const struct sent *sent, const struct capture *capture, struct fates *to)
 {
     static struct gathering all_sent, gathering;
-    uint64_t counted[FATES] = {0};
     begin_gathering(&all_sent, PLACES);
     begin_gathering(&gathering, PLACES);
     gather_run(&all_sent, sent->records[0], sizeof sent->records);
     gather_run(&gathering, capture->bytes, capture->size);
+    to->refused = gathering.refused;
     for (uint64_t place = 0; place < PLACES; place++) {
-        const enum fate fate = fate_of(reading_of(&demo_table, &gathering, place), reading_of(&demo_table, &all_sent, place));
+        const struct reading reading = reading_of(&demo_table, &gathering, place);
+        to->answers[place] = reading.word;
+        to->at[place] = fate_of(reading, reading_of(&demo_table, &all_sent, place));
+    }
+}
+
+/* Both kinds of takes that are refused: of a place that is not in the table, and of a short last part. */
+static void require_refused(const struct fates *fates, const struct capture *capture)
+{
+    const uint64_t parts = capture->size % RECORD_SIZE != 0;
+    require(parts, 1, "demo,", "short last parts");
+    require(fates->refused - parts, 1, "demo,", "records of places that are not in the table");
+}
+
+void require_fates(const struct fates *fates, const struct capture *capture)
+{
+    uint64_t counted[FATES] = {0};
+    for (uint64_t place = 0; place < PLACES; place++) {
+        const enum fate fate = fates->at[place];
         if (fate != fate_meant(place)) {
             printf("demo, place %lu is among the %s, not the %s\n", place, names[fate], names[fate_meant(place)]);
             exit(1);
@@ -61,5 +71,5 @@ void require_fates(const struct sent *sent, const struct capture *capture)
     }
     for (int fate = 0; fate < FATES; fate++)
         require(counted[fate], 1, "demo,", names[fate]);
-    require_refused(&gathering, capture);
+    require_refused(fates, capture);
 }

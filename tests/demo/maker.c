@@ -1,5 +1,5 @@
-/* Makes the two files of the demo in a new folder, the same bytes in every run, and prints the picture that was sent beside the one that
-   a slate shows. */
+/* Makes the two files of the demo and its drawing in a new folder, the same bytes in every run, and prints the picture
+   that was sent beside the one that a slate shows. */
 
 #include "demo.h"
 
@@ -8,10 +8,12 @@ static void require_picture(const struct sent *sent)
 {
     static struct capture all;
     struct bands received;
+    struct picture shown;
     put(&all, sent->records[0], sizeof sent->records);
     receive(&all, &received);
-    if (pixels_not_as_sent(&received) != 0) {
-        printf("demo, %lu pixels differ when all records come as they were sent\n", pixels_not_as_sent(&received));
+    show(&received, &shown);
+    if (pixels_not_as_sent(&shown) != 0) {
+        printf("demo, %lu pixels differ when all records come as they were sent\n", pixels_not_as_sent(&shown));
         exit(1);
     }
 }
@@ -20,6 +22,8 @@ int main(int words, char **word)
 {
     static struct capture capture;
     struct bands bands, received;
+    struct picture shown;
+    struct fates fates;
     struct sent sent;
     if (words != 3) {
         printf("maker FOLDER NAME\n");
@@ -32,9 +36,12 @@ int main(int words, char **word)
     code(&bands, &sent);
     require_picture(&sent);
     broadcast(&sent, &capture);
-    require_fates(&sent, &capture);
+    judge_fates(&sent, &capture, &fates);
+    require_fates(&fates, &capture);
     receive(&capture, &received);
-    print_pictures(&received);
+    show(&received, &shown);
+    print_pictures(&shown);
     write_case(word[1], &(struct stored_case){word[2], {demo_table.bytes, demo_table.size}, {capture.bytes, capture.size}, NULL});
+    write_drawing(word[1], word[2], &shown, &fates);
     return 0;
 }
