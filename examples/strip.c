@@ -1,7 +1,8 @@
-/* A layout program in small. It asks how many points a shell has, takes the records that came into a page, and draws the page's progress
-   strip, a sign for each place: `.` where nothing came, `#` where a record is held, `?` where records that differ came. */
+/* A layout program in small. It asks how many points a shell has, takes the records that came into a page, and draws
+   the page's progress strip, a sign for each place: `.` where nothing came, `#` where a record is held, `?` where
+   records that differ came. First it makes sure that the archive is of the version for which it was built. */
 
-#include "aldrynja.h"
+#include <aldrynja.h>
 
 #include <stdio.h>
 
@@ -22,6 +23,10 @@ int main(void)
 {
     static uint8_t page[CELL * PLACES];
 
+    if (aldrynja_version() != ALDRYNJA_VERSION) {
+        printf("built for version %d, linked with version %u\n", ALDRYNJA_VERSION, aldrynja_version());
+        return 1;
+    }
     printf("points of length 3 and radius 2: %llu\n", (unsigned long long)aldrynja_count(3, 2));
     for (size_t i = 0; i < sizeof came / RECORD; i++)
         printf("record %zu: %u\n", i, aldrynja_take(table, sizeof table, page, sizeof page, came[i], RECORD));

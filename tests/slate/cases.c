@@ -1,5 +1,6 @@
-/* What document 01 says of single counts and takes, as it stands there: none of the rules of tests/second comes between. "Points and
-   counts", "Listing program" and "Proofs of single values". */
+/* What document 01 says of single counts and takes, as it stands there: none of the rules of tests/second comes
+   between. "Points and counts", "Listing program" and "Proofs of single values". The version is that of docs/RULES.md,
+   "Calls for C". */
 
 #include "slate.h"
 
@@ -50,6 +51,7 @@ static void compare_case(const char *call, uint64_t number, uint64_t expected, u
 void compare_cases(void)
 {
     uint8_t page[2 * CELL_SIZE] = {0};
+    compare_case("aldrynja_version", 0, ALDRYNJA_VERSION, aldrynja_version());
     for (uint64_t i = 0; i < ENTRIES(counts); i++)
         compare_case("aldrynja_count", i, counts[i].n, aldrynja_count(counts[i].length, counts[i].radius));
     for (uint64_t i = 0; i < ENTRIES(takes); i++) {
@@ -59,5 +61,5 @@ void compare_cases(void)
         for (uint64_t j = 0; j < sizeof page; j++)
             compare_case("the page of aldrynja_take", i, takes[i].page[j], page[j]);
     }
-    printf("cases: %lu counts, %lu takes\n", ENTRIES(counts), ENTRIES(takes));
+    printf("cases: 1 version, %lu counts, %lu takes\n", ENTRIES(counts), ENTRIES(takes));
 }

@@ -1,5 +1,5 @@
-/* The parts of the layout program in small. It links the two calls of aldrynja.h and holds them to the rules of tests/second, which
-   are written from document 01 alone and share nothing with the calls. */
+/* The parts of the layout program in small. It links the three calls of aldrynja.h and holds them to the rules of
+   tests/second, which are written from document 01 alone and share nothing with the calls. */
 
 #ifndef SLATE_SLATE_H
 #define SLATE_SLATE_H
