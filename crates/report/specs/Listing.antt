@@ -37,7 +37,7 @@ lastLine counts refused = lastText (counts ++ (refused ∷ []))
 abbrev pub listed : List ℕ → Received → List ℕ
 listed t s = linesFrom t (s .page) 0 (placesIn t) ++ lastLine (tallyOf t (s .page)) (s .refused)
 
--- what the program prints, given the bytes of `records.bin`: "A bad table prints `refused 7` and nothing else";
--- otherwise each 8 bytes are taken in turn into an empty page, and a shorter last part too
+-- what the program prints, given the bytes of `records.bin`: "With a bad table the program prints the line `refused
+-- 7` and nothing else"; otherwise each 8 bytes are taken in turn into an empty page, and a shorter last part too
 abbrev pub listing : List ℕ → List ℕ → List ℕ
 listing t bytes = pick (anyOf (failsOf (tableChecks t))) (refusedText 7) (listed t (collected t (emptyPage (placesIn t)) bytes))

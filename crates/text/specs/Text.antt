@@ -62,6 +62,6 @@ placeText place answer reason coordinates = line (decimal place) (word answer �
 abbrev pub lastText : List ℕ → List ℕ
 lastText numbers = line (ascii "tally") (map decimal numbers)
 
--- "A bad table prints `refused 7` and nothing else"
+-- "With a bad table the program prints the line `refused 7` and nothing else"
 abbrev pub refusedText : ℕ → List ℕ
 refusedText number = line (ascii "refused") (decimal number ∷ [])
