@@ -3,6 +3,8 @@
 
 #include "bench.h"
 
+#include <string.h>
+
 enum { ROOM = MOST_LENGTH + 1, GARBAGE = 0x5a }; /* the room for an output, or a record, that is too long */
 enum { ITEM_REFUSAL, ITEM_ANSWER, ITEM_REASON };
 

@@ -3,8 +3,9 @@
 #ifndef BENCH_BENCH_H
 #define BENCH_BENCH_H
 
-#include "libc.h"
-#include "plain.h"
+#include "../tests/second/draws/draws.h"
+#include "../tests/second/probe.h"
+#include "plain/plain.h"
 
 enum {
     INPUTS = 4096, /* of each workload, compared and timed: too many for the processor to know what comes next by heart */

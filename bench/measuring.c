@@ -2,6 +2,8 @@
 
 #include "bench.h"
 
+#include <time.h>
+
 #define ROUND_NANOSECONDS 1e6
 enum { ROUNDS = 60 };
 
@@ -9,7 +11,7 @@ double nanoseconds_now(void)
 {
     struct timespec now;
     clock_gettime(CLOCK_MONOTONIC, &now);
-    return (double)now.seconds * 1e9 + (double)now.nanoseconds;
+    return (double)now.tv_sec * 1e9 + (double)now.tv_nsec;
 }
 
 /* Without what it takes to run an empty call. */

@@ -2,6 +2,9 @@
 
 #include "bench.h"
 
+#include <stdio.h>
+#include <stdlib.h>
+
 enum { OURS, PLAIN, COPY, NOTHING, PROGRAMS };
 enum { RUNS = 200, MOST_WORDS = 16 };
 

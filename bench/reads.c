@@ -3,6 +3,8 @@
 
 #include "bench.h"
 
+#include <stdio.h>
+
 typedef struct plain_reading read_call(const uint8_t *table, uint64_t table_length, const uint8_t *page, uint64_t page_length,
                                        uint64_t place, int32_t *out, uint64_t out_length);
 typedef uint64_t read_item_call(const uint8_t *table, uint64_t table_length, const uint8_t *page, uint64_t page_length, uint64_t place,

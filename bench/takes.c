@@ -4,6 +4,8 @@
 
 #include "bench.h"
 
+#include <stdio.h>
+
 typedef uint32_t take_call(const uint8_t *table, uint64_t table_length, uint8_t *page, uint64_t page_length, const uint8_t *record,
                            uint64_t record_length);
 typedef uint64_t take_item_call(const uint8_t *table, uint64_t table_length, uint8_t *page, uint64_t page_length, const uint8_t *record,

@@ -3,15 +3,13 @@
 
 #include "bench.h"
 
-static int is_stopped(int status)
-{
-    return (status & 0xff) == 0x7f;
-}
-
-static int stopping_signal(int status)
-{
-    return status >> 8 & 0xff;
-}
+#include <fcntl.h>
+#include <sched.h>
+#include <signal.h>
+#include <stddef.h>
+#include <sys/ptrace.h>
+#include <sys/wait.h>
+#include <unistd.h>
 
 /* From where the process has stopped by itself to its end. It ends without stopping where it cannot be traced. */
 static double steps_to_end(int process)
@@ -19,14 +17,14 @@ static double steps_to_end(int process)
     double steps = 0;
     int status;
     waitpid(process, &status, 0);
-    if (!is_stopped(status))
+    if (!WIFSTOPPED(status))
         return UNCOUNTED;
     for (;;) {
         ptrace(PTRACE_SINGLESTEP, process, NULL, NULL);
         waitpid(process, &status, 0);
-        if (!is_stopped(status))
+        if (!WIFSTOPPED(status))
             break;
-        if (stopping_signal(status) != SIGTRAP)
+        if (WSTOPSIG(status) != SIGTRAP)
             fail("a process that is traced", "another signal");
         steps++;
     }
@@ -36,19 +34,21 @@ static double steps_to_end(int process)
 }
 
 /* Keeps this process, and what it starts, to one processor, where stopping and going on take less time; those of before are returned. */
-static struct processors keep_to_one(void)
+static cpu_set_t keep_to_one(void)
 {
-    struct processors before = {{0}}, one = {{0}};
-    const uint64_t number = (uint64_t)sched_getcpu();
+    cpu_set_t before, one;
+    const int number = sched_getcpu();
+    CPU_ZERO(&before);
+    CPU_ZERO(&one);
     sched_getaffinity(0, sizeof before, &before);
-    if (number < 64 * ENTRIES(one.bits)) {
-        one.bits[number / 64] = (uint64_t)1 << number % 64;
+    if (0 <= number && number < CPU_SETSIZE) {
+        CPU_SET(number, &one);
         sched_setaffinity(0, sizeof one, &one);
     }
     return before;
 }
 
-static void go_back_to(struct processors processors)
+static void go_back_to(cpu_set_t processors)
 {
     sched_setaffinity(0, sizeof processors, &processors);
 }
@@ -57,7 +57,7 @@ static void go_back_to(struct processors processors)
    same for every call. */
 double steps_of_run(run_call *run, any_call *call, uint64_t inputs)
 {
-    const struct processors before = keep_to_one();
+    const cpu_set_t before = keep_to_one();
     const int process = fork();
     if (process == 0) {
         run(call, inputs);
@@ -77,8 +77,8 @@ int start(char *const *words, const char *folder, const char *output, int is_tra
 {
     const int process = fork();
     if (process == 0) {
-        const int file = open(output, TO_WRITE, 0644);
-        if (file < 0 || dup2(file, STANDARD_OUTPUT) < 0 || chdir(folder) < 0)
+        const int file = open(output, O_WRONLY | O_CREAT | O_TRUNC, 0644);
+        if (file < 0 || dup2(file, STDOUT_FILENO) < 0 || chdir(folder) < 0)
             _exit(1);
         if (is_traced && ptrace(PTRACE_TRACEME, 0, NULL, NULL) != 0)
             _exit(0);
@@ -97,7 +97,7 @@ void wait_for(int process)
 
 double steps_of_program(char *const *words, const char *folder, const char *output)
 {
-    const struct processors before = keep_to_one();
+    const cpu_set_t before = keep_to_one();
     const double steps = steps_to_end(start(words, folder, output, 1));
     go_back_to(before);
     return steps;

@@ -5,6 +5,10 @@
 #define DEMO_DEMO_H
 
 #include "../listing/listing.h"
+#include "../second/probe.h"
+
+#include <stdio.h>
+#include <stdlib.h>
 
 enum {
     COLUMNS = 24, /* of the picture, in pixels */

@@ -3,6 +3,8 @@
 
 #include "listing.h"
 
+#include <stdio.h>
+
 enum { RUN = RECORD_SIZE * 1000 }; /* the bytes that are read at a time */
 
 /* "a missing file is empty". Of a table that is too long only the size counts. */
@@ -10,7 +12,7 @@ static struct table read_table(void)
 {
     static uint8_t beyond[RUN];
     struct table table = {.size = 0};
-    struct file *file = fopen("pairing.bin", "rb");
+    FILE *file = fopen("pairing.bin", "rb");
     if (!file)
         return table;
     table.size = fread(table.bytes, 1, sizeof table.bytes, file);
@@ -24,7 +26,7 @@ static struct table read_table(void)
 static void gather_records(struct gathering *to)
 {
     static uint8_t run[RUN];
-    struct file *file = fopen("records.bin", "rb");
+    FILE *file = fopen("records.bin", "rb");
     if (!file)
         return;
     for (size_t size = RUN; size == RUN;) {

@@ -4,7 +4,7 @@
 #ifndef SECOND_PROBE_H
 #define SECOND_PROBE_H
 
-#include "libc.h"
+#include <stdint.h>
 
 /* An answer of the first two calls that is REFUSED or more is REFUSED plus the refusal number. */
 #define REFUSED ((uint64_t)1 << 40)

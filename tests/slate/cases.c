@@ -3,6 +3,9 @@
 
 #include "slate.h"
 
+#include <stdio.h>
+#include <stdlib.h>
+
 static const struct {
     uint64_t length;
     uint64_t radius;

@@ -1,7 +1,10 @@
-/* aldrynja_count, held to the N of shells.c: small lengths and radii, good and bad, and numbers that are small only where they are
+/* aldrynja_count, held to the N of tests/second/rules/shells.c: small lengths and radii, good and bad, and numbers that are small only where they are
    cut. Document 01, "Points and counts". */
 
 #include "slate.h"
+
+#include <stdio.h>
+#include <stdlib.h>
 
 enum { SOME_LENGTHS = 41, SOME_RADII = 71 };
 

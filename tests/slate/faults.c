@@ -3,6 +3,8 @@
 
 #include "slate.h"
 
+#include <stdio.h>
+
 enum { BAD_TABLES = 200 };
 
 static struct page page;

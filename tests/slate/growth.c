@@ -4,6 +4,8 @@
 
 #include "slate.h"
 
+#include <stdio.h>
+
 enum { TAKES_OF_CLASS = 600000, TAKES_OF_TABLE = 400, RECENT = 8 };
 
 /* How a page begins, and whether cells are drawn anew between the takes. */

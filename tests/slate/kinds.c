@@ -4,6 +4,9 @@
 
 #include "slate.h"
 
+#include <stdio.h>
+#include <string.h>
+
 enum { LEAST = 200, LEAST_OF_CLASS = 10000, LEAST_TAKES = 1000000 };
 
 /* The last number of places of each class of pages; each class begins behind the one before. */

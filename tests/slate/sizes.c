@@ -3,6 +3,8 @@
 
 #include "slate.h"
 
+#include <stdio.h>
+
 enum { MOST_SIZE = 600, FEW_PLACES = 3, EMPTY_TABLES = 250, END_TABLES = 100 };
 
 /* A buffer as it must be, or with no bytes by each pointer. */

@@ -4,7 +4,9 @@
 #ifndef SLATE_SLATE_H
 #define SLATE_SLATE_H
 
-#include "../second/page_kinds.h"
+#include "../second/draws/page_draws.h"
+#include "../second/kinds/lent.h"
+#include "../second/kinds/page_kinds.h"
 #include "aldrynja.h"
 
 /* How a buffer is lent: in its room; or, if it has no bytes, by a null pointer or by one to nothing. */
@@ -21,7 +23,7 @@ struct lending {
     enum pointer to_record;
 };
 
-/* lending.c: one comparison of aldrynja_take with the rules of page.c, whose refusal is returned */
+/* lending.c: one comparison of aldrynja_take with the rules in tests/second/rules/page.c, whose refusal is returned */
 void tell_faults(void);
 void call_take(const struct taking *taking, const uint8_t *table, uint8_t *page, const uint8_t *record);
 uint64_t compare_lending(const struct lending *lending);
