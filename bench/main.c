@@ -1,4 +1,5 @@
-/* The benchmark: the calls, ours against plain C, and then the listing program. Its arguments are those of bench_programs. */
+/* The benchmark: the calls, ours against plain C, and then the listing program. Its arguments are those of
+   bench_programs. Without arguments the answers of the calls are compared, and nothing is measured. */
 
 #include "bench.h"
 
@@ -6,21 +7,29 @@ enum { LEAST_ARGUMENTS = 7 };
 
 int main(int words, char **arguments)
 {
-    if (words <= LEAST_ARGUMENTS)
+    const int is_measured = words > 1;
+    if (is_measured && words <= LEAST_ARGUMENTS)
         fail("arguments", "too few");
     count_points();
     plain_begin();
-    chance_from(1);
     begin_settings();
+    chance_from(2);
+    compare_draws();
+    chance_from(1);
     compare_calls();
-    print_head();
+    if (is_measured)
+        begin_measuring();
     bench_points();
     for (int i = 0; i < SETTINGS; i++) {
         bench_vectors(&settings[i]);
         bench_takes(&settings[i]);
         bench_reads(&settings[i]);
     }
-    bench_programs(arguments + 1);
-    print_slow_lines();
+    if (is_measured) {
+        bench_programs(arguments + 1);
+        print_slow_lines();
+    } else {
+        print_compared();
+    }
     return 0;
 }
