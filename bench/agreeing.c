@@ -1,5 +1,5 @@
-/* Ours and plain C are asked the same. A difference, in the answer or in what a call is lent, is an error; else the answer is returned,
-   of quantize, take and read the refusal number. */
+/* Ours and plain C are asked the same. A difference, in the answer or in what a call is lent, is an error; else the
+   answer is returned, of quantize, take and read the refusal number. */
 
 #include "bench.h"
 

@@ -1,4 +1,5 @@
-/* The parts of the benchmark: the calls of tests/second/probe.h and the listing program, ours, against plain C of the same. */
+/* The parts of the benchmark: the calls of tests/second/probe.h and the listing program, ours, against plain
+   C of the same. */
 
 #ifndef BENCH_BENCH_H
 #define BENCH_BENCH_H
@@ -8,7 +9,7 @@
 #include "plain/plain.h"
 
 enum {
-    INPUTS = 4096, /* of each workload, compared and timed: too many for the processor to know what comes next by heart */
+    INPUTS = 4096, /* of each workload, compared and timed: too many for the processor to know the next by heart */
     COUNTED = 64,  /* those of them that are run step by step */
     NAME = 80      /* the room for the name of a line */
 };
@@ -113,7 +114,8 @@ void begin_settings(void);
 const uint8_t *row_for(const struct setting *setting, uint64_t place);
 void sound_record(const struct setting *setting, uint64_t place, uint8_t *record);
 
-/* The workloads, each in the file that its name says: their inputs are drawn, the answers compared, and the calls measured */
+/* The workloads, each in the file that its name says: their inputs are drawn, the answers compared, and the
+   calls measured */
 void bench_points(void);
 void bench_vectors(const struct setting *with);
 void bench_takes(const struct setting *with);

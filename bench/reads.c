@@ -1,5 +1,5 @@
-/* Reading: places by chance. Of 16 places one is missing, one contested and one unreadable, two are mended where a shell of the row
-   has a codeword past N, and the others are sound. */
+/* Reading: places by chance. Of 16 places one is missing, one contested and one unreadable, two are mended where a
+   shell of the row has a codeword past N, and the others are sound. */
 
 #include "bench.h"
 

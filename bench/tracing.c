@@ -1,5 +1,5 @@
-/* How many instructions something takes: it is run by another process, which is stopped after each of them. An instruction that
-   repeats itself counts as often as it does so. */
+/* How many instructions something takes: it is run by another process, which is stopped after each of them. An
+   instruction that repeats itself counts as often as it does so. */
 
 #include "bench.h"
 
@@ -33,7 +33,8 @@ static double steps_to_end(int process)
     return steps;
 }
 
-/* Keeps this process, and what it starts, to one processor, where stopping and going on take less time; those of before are returned. */
+/* Keeps this process, and what it starts, to one processor, where stopping and going on take less time; those of
+   before are returned. */
 static cpu_set_t keep_to_one(void)
 {
     cpu_set_t before, one;
@@ -53,8 +54,8 @@ static void go_back_to(cpu_set_t processors)
     sched_setaffinity(0, sizeof processors, &processors);
 }
 
-/* The call is run twice, and the second time is counted, so that whatever is done once is done. What the process does besides is the
-   same for every call. */
+/* The call is run twice, and the second time is counted, so that whatever is done once is done. What the process does
+   besides is the same for every call. */
 double steps_of_run(run_call *run, any_call *call, uint64_t inputs)
 {
     const cpu_set_t before = keep_to_one();

@@ -1,5 +1,6 @@
-/* A layout program in small. It asks how many points a shell has, takes the records that came into a page, and draws the page's progress
-   strip, a sign for each place: `.` where nothing came, `#` where a record is held, `?` where records that differ came. */
+/* A layout program in small. It asks how many points a shell has, takes the records that came into a page, and draws
+   the page's progress strip, a sign for each place: `.` where nothing came, `#` where a record is held, `?` where
+   records that differ came. */
 
 #include "aldrynja.h"
 

@@ -1,12 +1,12 @@
 # Functions that build and run programs, to be sourced by a bash script. They use the compiler, the linker, the loader
-# and the C library of the kit, found from `rt doc`: nothing is installed, and no path is fixed. Programs are for x86-64;
-# on another machine the kit has an emulator, and they run behind it.
+# and the C library of the kit, found from `rt doc`: nothing is installed, and no path is fixed. Programs are for
+# x86-64; on another machine the kit has an emulator, and they run behind it.
 #
-#   kit_compile FOLDER FILE.c ..       compiles each FILE.c to FOLDER/FILE.o; a warning is an error
-#   kit_compile_folders FOLDER FROM .. compiles all files of each folder FROM, tests/second/rules for one to FOLDER/rules
-#   kit_link PROGRAM FILE ..           links objects and archives, in that order, with the C library
-#   kit_run PROGRAM WORD ..            runs a program; the status is the program's own
-#   kit_level                          the optimisation that kit_compile asks for, -O2 unless the script sets it
+#   kit_compile FOLDER FILE.c ..        compiles each FILE.c to FOLDER/FILE.o; a warning is an error
+#   kit_compile_folders FOLDER FROM ..  compiles each folder FROM: the files of tests/second/rules to FOLDER/rules
+#   kit_link PROGRAM FILE ..            links objects and archives, in that order, with the C library
+#   kit_run PROGRAM WORD ..             runs a program; the status is the program's own
+#   kit_level                           the optimisation that kit_compile asks for, -O2 unless the script sets it
 # shellcheck shell=bash
 
 # The kit's part for this machine: two levels above the guide, then on/MACHINE.

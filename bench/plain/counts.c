@@ -1,4 +1,4 @@
-/* The counts of document 01, "Points and counts" and "The product index", as tables. */
+/* The counts of docs/RULES.md, "Points and counts" and "The product index", as tables. */
 
 #include "plain.h"
 

@@ -1,4 +1,4 @@
-/* Taking a record into a page, and reading a place; document 01, "The page". */
+/* Taking a record into a page, and reading a place; docs/RULES.md, "The page". */
 
 #include "plain.h"
 

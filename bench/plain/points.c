@@ -1,8 +1,9 @@
-/* The index of a point and the point of an index; document 01, "The product index". */
+/* The index of a point and the point of an index; docs/RULES.md, "The product index". */
 
 #include "plain.h"
 
-/* In one pass from the last coordinate, where s and the sum of what stands behind are at hand; refused 5 if the sum is not the radius. */
+/* In one pass from the last coordinate, where s and the sum of what stands behind are at hand; refused 5 if the sum is
+   not the radius. */
 uint64_t plain_rank(uint64_t length, uint64_t radius, const int32_t *point)
 {
     const uint32_t(*patterns)[MOST_LENGTH + 1] = counts.patterns;
@@ -29,7 +30,8 @@ uint64_t plain_rank(uint64_t length, uint64_t radius, const int32_t *point)
     return counts.starts[length][radius][s] + (((uint64_t)pattern * (*shapes)[radius] + shape) << s) + sign;
 }
 
-/* The index must be below N. A magnitude i is the largest with S(s,k) - S(s,k-i+1) up to the shape; the last one is what is left. */
+/* The index must be below N. A magnitude i is the largest with S(s,k) - S(s,k-i+1) up to the shape; the last one
+   is what is left. */
 void plain_unrank(uint64_t length, uint64_t radius, uint64_t index, int32_t *out)
 {
     const uint32_t(*patterns)[MOST_LENGTH + 1] = counts.patterns + length;

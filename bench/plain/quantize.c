@@ -1,4 +1,4 @@
-/* A vector into a record; document 01, "Quantizing into a record". */
+/* A vector into a record; docs/RULES.md, "Quantizing into a record". */
 
 #include "plain.h"
 
@@ -18,7 +18,7 @@ static int are_usable(const float *coefficients, uint64_t length)
     return are_all;
 }
 
-/* From 2^23 to 2^24 the floats are the whole numbers, so the sum of 256x and 2^23 is rounded as the document says. */
+/* From 2^23 to 2^24 the floats are the whole numbers, so the sum of 256x and 2^23 is rounded as the rules say. */
 static void round_all(const float *coefficients, uint64_t length, struct parts *parts)
 {
     uint32_t sum = 0;

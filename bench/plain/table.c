@@ -1,4 +1,5 @@
-/* The check of a pairing table in one pass, which finds the row of a place on the way; document 01, "Pairing table". */
+/* The check of a pairing table in one pass, which finds the row of a place on the way; docs/RULES.md,
+   "Pairing table". */
 
 #include "plain.h"
 

@@ -1,4 +1,5 @@
-/* Reads the files of a page and writes its listing from a file: the reading and the writing of a listing program, and nothing else. */
+/* Reads the files of a page and writes its listing from a file: the reading and the writing of a listing program,
+   and nothing else. */
 
 #include "filling.h"
 

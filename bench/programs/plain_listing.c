@@ -1,4 +1,5 @@
-/* The listing program as plain C, for speed: it reads and writes in blocks and makes its own decimals; document 01, "Listing program". */
+/* The listing program as plain C, for speed: it reads and writes in blocks and makes its own decimals; docs/RULES.md,
+   "Listing program". */
 
 #include "../plain/plain.h"
 #include "filling.h"

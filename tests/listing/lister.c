@@ -1,5 +1,5 @@
-/* An independent listing program: reads `pairing.bin` and `records.bin` of the directory that it is started in, of any size, and prints
-   the listing of document 01. */
+/* An independent listing program: reads `pairing.bin` and `records.bin` of the directory that it is started in, of any
+   size, and prints the listing of docs/RULES.md, "Listing program". */
 
 #include "listing.h"
 
@@ -22,7 +22,8 @@ static struct table read_table(void)
     return table;
 }
 
-/* fread gives less than it is asked for at the end alone, so only the last run can have a part of fewer than 8 bytes. */
+/* fread gives less than it is asked for at the end alone, so only the last run can have a part of
+   fewer than 8 bytes. */
 static void gather_records(struct gathering *to)
 {
     static uint8_t run[RUN];

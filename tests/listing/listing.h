@@ -75,8 +75,8 @@ void write_cases(const char *folder, const struct stored_case *cases, uint64_t n
     (uint8_t)((place) >> 8), (uint8_t)(place), row, number, /* high byte first */                                                          \
         (uint8_t)((codeword) >> 24), (uint8_t)((codeword) >> 16), (uint8_t)((codeword) >> 8), (uint8_t)(codeword)
 
-/* Cases of a few bytes, with their listings. Those of the files and of what is taken are in cases/small_cases.c, those of
-   bad tables in cases/table_cases.c, and those of what a place shows in cases/place_cases.c. */
+/* Cases of a few bytes, with their listings. Those of the files and of what is taken are in cases/small_cases.c, those
+   of bad tables in cases/table_cases.c, and those of what a place shows in cases/place_cases.c. */
 void make_small_cases(const char *folder);
 void make_table_cases(const char *folder);
 void make_place_cases(const char *folder);

@@ -1,6 +1,6 @@
-/* Hands a file over through a named pipe in pieces, `pieces FROM PIPE SIZE ..`: the sizes in turn, again and again. A piece is written
-   only when the one before is taken, so that no read gets more than one. It ends without a word when the pipe is removed, or when its
-   reader has ended. */
+/* Hands a file over through a named pipe in pieces, `pieces FROM PIPE SIZE ..`: the sizes in turn, again and again. A
+   piece is written only when the one before is taken, so that no read gets more than one. It ends without a word when
+   the pipe is removed, or when its reader has ended. */
 
 #include <fcntl.h>
 #include <stdint.h>

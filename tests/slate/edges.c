@@ -1,5 +1,5 @@
-/* Buffers that end where memory ends: what is read or written behind one of them, as where a size is judged too late, ends the call.
-   Document 01, "Refusal numbers". */
+/* Buffers that end where memory ends: what is read or written behind one of them, as where a size is judged too late,
+   ends the call. See docs/RULES.md, "Refusal numbers". */
 
 #include "slate.h"
 

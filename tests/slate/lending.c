@@ -1,5 +1,5 @@
-/* One comparison of aldrynja_take with the rules in tests/second/rules/page.c. What the call is lent lies among guards, and every byte of it is compared
-   afterwards: only the page may change, and only as those rules say. */
+/* One comparison of aldrynja_take with the rules in tests/second/rules/page.c. What the call is lent lies among guards,
+   and every byte of it is compared afterwards: only the page may change, and only as those rules say. */
 
 #include "slate.h"
 

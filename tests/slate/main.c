@@ -1,5 +1,5 @@
-/* The layout program in small: compares the two calls of aldrynja.h with document 01 by the rules of tests/second, and says what it
-   compared. The first difference ends it with status 1. */
+/* The layout program in small: compares the two calls of aldrynja.h with docs/RULES.md by the rules of tests/second,
+   and says what it compared. The first difference ends it with status 1. */
 
 #include "slate.h"
 

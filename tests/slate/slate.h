@@ -1,5 +1,5 @@
-/* The parts of the layout program in small. It links the two calls of aldrynja.h and holds them to the rules of tests/second, which
-   are written from document 01 alone and share nothing with the calls. */
+/* The parts of the layout program in small. It links the two calls of aldrynja.h and holds them to the rules of
+   tests/second, which are written from docs/RULES.md alone and share nothing with the calls. */
 
 #ifndef SLATE_SLATE_H
 #define SLATE_SLATE_H
@@ -12,8 +12,8 @@
 /* How a buffer is lent: in its room; or, if it has no bytes, by a null pointer or by one to nothing. */
 enum pointer { TO_ROOM, TO_NULL, TO_NOTHING };
 
-/* What aldrynja_take is lent. A size that is not right may be any number, larger than the room too: it decides the answer alone, and
-   the call may look at nothing. */
+/* What aldrynja_take is lent. A size that is not right may be any number, larger than the room too: it decides the
+   answer alone, and the call may look at nothing. */
 struct lending {
     const struct table *table;
     struct page *page;

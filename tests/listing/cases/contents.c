@@ -1,5 +1,6 @@
-/* What a full capture must hold, so that its listing tells wrong programs from right ones. Each thing is counted from what the rules make
-   of the capture, not from how it was made, and the test ends with an error of its own if one is not there. */
+/* What a full capture must hold, so that its listing tells wrong programs from right ones. Each thing is counted
+   from what the rules make of the capture, not from how it was made, and the test ends with an error of its own if
+   one is not there. */
 
 #include "../listing.h"
 

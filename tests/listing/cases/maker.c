@@ -1,5 +1,5 @@
-/* Makes the cases of vectors/ in a folder, the same bytes in every run. The case `full_page` gets no listing.txt: that comes from the
-   lister. */
+/* Makes the cases of vectors/ in a folder, the same bytes in every run. The case `full_page` gets no listing.txt: that
+   comes from the lister. */
 
 #include "../listing.h"
 
@@ -7,7 +7,8 @@
 
 enum { SEED = 1996 };
 
-/* One place of sixteen is lost, and one of thirty-two is sent twice, with two vectors. The capture ends with 7 bytes of a lost record. */
+/* One place of sixteen is lost, and one of thirty-two is sent twice, with two vectors. The capture ends with 7 bytes of
+   a lost record. */
 static void make_full_page(const char *folder)
 {
     static struct capture capture;

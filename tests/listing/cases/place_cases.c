@@ -2,9 +2,10 @@
 
 #include "../listing.h"
 
-/* Each of the five answers and of the three reasons, in row 0; the two records of place 3 come twice each. Then more than one reason holds:
-   places 7, 8, 9 and 10 have all three, 9 and 14, 10 and 14, 9 and 10. Place 11 has a row that is not in the table. The radius number that
-   is not in the row is 2, where a 0 stands behind the radii, but for place 12: there it is 8, where the step stands. */
+/* Each of the five answers and of the three reasons, in row 0; the two records of place 3 come twice each. Then more
+   than one reason holds: places 7, 8, 9 and 10 have all three, 9 and 14, 10 and 14, 9 and 10. Place 11 has a row that
+   is not in the table. The radius number that is not in the row is 2, where a 0 stands behind the radii, but for place
+   12: there it is 8, where the step stands. */
 static const uint8_t answers_table[] = {
     3, 2, 0, 2, 0, 0, 0, 0, 0, 0, 1, 0, 0, 8, 0, 0, /* places 0 to 7: N = 18, b = 5 */
     2, 2, 0, 3, 0, 0, 0, 0, 0, 0, 1, 0, 0, 6, 0, 0, /* places 8 to 13: N = 12, b = 4 */
@@ -31,8 +32,8 @@ static const char answers_text[] = "0 sound 0 -2 0 0\n"
                                    "13 sound 0 -3 0\n"
                                    "tally 2 1 1 1 9 0\n";
 
-/* The first and the last place of each row. In rows 0 to 2 the records have the place's row; then that of a neighbour, but for the last
-   place of all. Codeword 1 is a point in every row. */
+/* The first and the last place of each row. In rows 0 to 2 the records have the place's row; then that of a neighbour,
+   but for the last place of all. Codeword 1 is a point in every row. */
 static const uint8_t six_rows[] = {
     1, 2, 0, 5, 0, 0, 0, 0, 0, 0, 1, 0, 0, 2, 0, 0, /* places 0 and 1 */
     2, 2, 0, 3, 0, 0, 0, 0, 0, 0, 1, 0, 0, 3, 0, 0, /* places 2 to 4 */
@@ -94,9 +95,10 @@ static const char radius_0_text[] = "0 unreadable 14 0 0 0 0\n"
                                     "3 unreadable 14 0 0 0 0\n"
                                     "tally 1 0 0 0 3 0\n";
 
-/* Length 16 and radius 12, b = 32: codewords 0, 2^31, N - 1, N and 2^32 - 1. The ranges for s = 12, 11, 10, 9 and 8 start at 0, 7,454,720,
-   105,857,024, 556,867,584 and 1,523,318,784. Index 2^31 has s = 8, pattern 7,388, shape 104, sign 0; N - 2^31, which is 1,427,571,712,
-   has s = 9, pattern 10,306, shape 104, sign 0; 2^31 - 1 has s = 8, pattern 7,388, shape 103, sign 255. */
+/* Length 16 and radius 12, b = 32: codewords 0, 2^31, N - 1, N and 2^32 - 1. The ranges for s = 12, 11, 10, 9 and 8
+   start at 0, 7,454,720, 105,857,024, 556,867,584 and 1,523,318,784. Index 2^31 has s = 8, pattern 7,388, shape 104,
+   sign 0; N - 2^31, which is 1,427,571,712, has s = 9, pattern 10,306, shape 104, sign 0; 2^31 - 1 has s = 8, pattern
+   7,388, shape 103, sign 255. */
 static const uint8_t widest_table[] = {16, 2, 0, 12, 0, 0, 0, 0, 0, 0, 1, 0, 0, 5, 0, 0};
 static const uint8_t widest_records[] = {
     RECORD(0, 0, 1, 0), RECORD(1, 0, 1, 0x80000000), RECORD(2, 0, 1, 3575055359), RECORD(3, 0, 1, 3575055360), RECORD(4, 0, 1, 0xffffffff),
@@ -108,8 +110,8 @@ static const char widest_text[] = "0 sound 0 0 0 0 0 1 1 1 1 1 1 1 1 1 1 1 1\n"
                                   "4 mended 0 -1 0 0 -1 0 0 -2 -3 0 -2 0 -1 0 -1 -1 0\n"
                                   "tally 3 2 0 0 0 0\n";
 
-/* Length 3 and radius 4, N = 66 and b = 7: every pattern with each of its shapes, the signs in turn. The ranges for s = 3, 2 and 1 start
-   at 0, 24 and 60. The last place is mended, to index 63. */
+/* Length 3 and radius 4, N = 66 and b = 7: every pattern with each of its shapes, the signs in turn. The ranges for
+   s = 3, 2 and 1 start at 0, 24 and 60. The last place is mended, to index 63. */
 static const uint8_t shapes_table[] = {3, 2, 0, 4, 0, 0, 0, 0, 0, 0, 1, 0, 0, 16, 0, 0};
 static const uint8_t shapes_records[] = {
     RECORD(0, 0, 1, 1),    RECORD(1, 0, 1, 10),  RECORD(2, 0, 1, 20),  /* s = 3 */
@@ -146,7 +148,8 @@ static const struct stored_case cases[] = {
     {"every_shape", BYTES(shapes_table), BYTES(shapes_records), shapes_text},
 };
 
-/* Length 3 and radius 2, N = 18 and b = 5, then length 2 and radius 3, N = 12 and b = 4: codewords from 0 to 2^b, one a place. */
+/* Length 3 and radius 2, N = 18 and b = 5, then length 2 and radius 3, N = 12 and b = 4: codewords from 0 to
+   2^b, one a place. */
 enum { PLACES_OF_0 = 33, PLACES_OF_1 = 17, CODEWORDS = PLACES_OF_0 + PLACES_OF_1 };
 static const uint8_t codewords_table[] = {
     3, 2, 0, 2, 0, 0, 0, 0, 0, 0, 1, 0, 0, PLACES_OF_0, 0, 0, /* places 0 to 32 */

@@ -1,5 +1,5 @@
-/* The sender of the case `full_page`: a pairing table that is full, and the record of a vector by chance for each place. Document 01,
-   "Pairing table" and "Quantizing into a record". */
+/* The sender of the case `full_page`: a pairing table that is full, and the record of a vector by chance for each
+   place. See docs/RULES.md, "Pairing table" and "Quantizing into a record". */
 
 #include "../listing.h"
 
@@ -19,8 +19,8 @@ static void spread_by_chance(uint8_t *row, uint64_t largest)
             row[AT_RADII + have++] = (uint8_t)radius;
 }
 
-/* 32 rows. The first 16 have every length and 8 radii; the others have every length again, in another order, and 8 to 1 radii. Two
-   rows share 256 places, the first two as 1 and 255. */
+/* 32 rows. The first 16 have every length and 8 radii; the others have every length again, in another order, and 8 to 1
+   radii. Two rows share 256 places, the first two as 1 and 255. */
 struct table full_table(void)
 {
     const uint64_t steps[] = {1, 255, 256, 65535};

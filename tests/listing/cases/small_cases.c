@@ -1,9 +1,9 @@
-/* Cases of a few bytes, whose listings are written down from document 01 and come from no program: here the document's whole case, and
-   what is taken of the files. */
+/* Cases of a few bytes, whose listings are written down from the rules and come from no program: here the whole case of
+   the rules, and what is taken of the files. */
 
 #include "../listing.h"
 
-/* "Whole case." */
+/* docs/RULES.md, "Worked cases": the whole case. */
 static const uint8_t whole_table[] = {3, 2, 0, 2, 0, 0, 0, 0, 0, 0, 1, 0, 0, 2, 0, 0};
 static const uint8_t whole_records[] = {0, 0, 0, 1, 0, 0, 0, 0x05, 0, 1, 0, 1, 0, 0, 0, 0x12};
 
@@ -13,7 +13,8 @@ static const uint8_t three_rows[] = {
     16, 2, 0, 12, 0, 0, 0, 0, 0, 0, 0xff, 0, 0, 2, 0, 0, /* places 3 and 4 */
 };
 
-/* Two points of "Proofs of single values", (1,0,-1) and (-3,0); a place that is not in the table; and 7 bytes of a record of place 1. */
+/* Two points of "Worked cases", (1,0,-1) and (-3,0); a place that is not in the table; and 7 bytes of a
+   record of place 1. */
 static const uint8_t two_rows[] = {
     3, 2, 0, 2, 0, 0, 0, 0, 0, 0, 1, 0, 0, 2, 0, 0, /* places 0 and 1 */
     2, 2, 0, 3, 0, 0, 0, 0, 0, 0, 2, 1, 0, 2, 0, 0, /* places 2 and 3 */
@@ -21,8 +22,9 @@ static const uint8_t two_rows[] = {
 static const uint8_t records_and_a_part[] = {0, 3, 1, 1, 0, 0, 0, 11, 0, 0, 0, 1, 0, 0, 0, 0x05,
                                              0, 4, 1, 1, 0, 0, 0, 11, 0, 1, 0, 1, 0, 0, 0};
 
-/* The same two points among records of places that are not in the table: the one behind the last, which comes twice; places 1 and 2 with
-   their bytes exchanged; what would be places 0 and 1 in 12 bits; and what would be negative with a sign. */
+/* The same two points among records of places that are not in the table: the one behind the last, which comes
+   twice; places 1 and 2 with their bytes exchanged; what would be places 0 and 1 in 12 bits; and what would be
+   negative with a sign. */
 static const uint8_t strangers[] = {
     RECORD(4, 1, 1, 4),    RECORD(256, 0, 1, 0),  RECORD(3, 1, 1, 11),    RECORD(512, 1, 1, 0),   RECORD(4096, 0, 1, 0),
     RECORD(4097, 0, 1, 0), RECORD(0, 0, 1, 0x05), RECORD(32768, 0, 1, 0), RECORD(65535, 1, 1, 0), RECORD(4, 1, 1, 4),
@@ -34,9 +36,10 @@ static const uint8_t a_part[] = {0, 0, 0, 1, 0};
 /* Its bytes are those that an empty place has. */
 static const uint8_t zero_record[] = {RECORD(0, 0, 0, 0)};
 
-/* What comes for a place, in three rounds. Place 0: the record of eight zeros, and another. 1: one record, and it again. 2, 3 and 4: two
-   that differ, and then the first, the second, a third. 5: a sound one and a mended one of the same point. 6: a sound one, and one of
-   another row. 7: two with radius numbers that are not in the row. 8 and 9: an unreadable one and a mended one, and each again. */
+/* What comes for a place, in three rounds. Place 0: the record of eight zeros, and another. 1: one record, and it
+   again. 2, 3 and 4: two that differ, and then the first, the second, a third. 5: a sound one and a mended one of the
+   same point. 6: a sound one, and one of another row. 7: two with radius numbers that are not in the row. 8 and 9: an
+   unreadable one and a mended one, and each again. */
 static const uint8_t eleven_places[] = {2, 2, 0, 3, 0, 0, 0, 0, 0, 0, 1, 0, 0, 11, 0, 0};
 static const uint8_t one_order[] = {
     RECORD(0, 0, 0, 0),  RECORD(1, 0, 1, 5), RECORD(2, 0, 1, 5), RECORD(3, 0, 1, 5),  RECORD(4, 0, 1, 5), /* round 1 */

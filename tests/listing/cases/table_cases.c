@@ -24,7 +24,8 @@ static const uint8_t total_wraps[] = {
     1, 1, 0, 0, 0, 0, 0, 0, 0, 0, 1, 0, 0xff, 0xff, 0, 0, /* 65,535 */
 };
 
-/* A good table with numbers at the ends of their ranges. A row has one place, and its record the last point of the row's last radius. */
+/* A good table with numbers at the ends of their ranges. A row has one place, and its record the last point of the
+   row's last radius. */
 static const uint8_t good_table[] = {
     1,  8, 0, 1,  2,  3, 4, 5, 6, 31, 32,   0,    0, 1, 0, 0, /* the step's high byte would do as a ninth radius */
     16, 2, 0, 12, 0,  0, 0, 0, 0, 0,  0xff, 0xff, 0, 1, 0, 0, /* the largest radius that is usable with length 16 */

@@ -1,5 +1,5 @@
-/* The channel of the case `full_page`: it repeats what it carries, changes some of it, in any field, and hands it over in another order,
-   among records that are no part of the page. */
+/* The channel of the case `full_page`: it repeats what it carries, changes some of it, in any field, and hands it over
+   in another order, among records that are no part of the page. */
 
 #include "../listing.h"
 
@@ -28,8 +28,8 @@ static uint64_t codeword_to_judge(struct shell shell)
     return chance_below(3) ? mended : choices[chance_below(ENTRIES(choices))];
 }
 
-/* Changes a record that was sent as a point of the shell: its place, its row, its radius number, a bit of its codeword, the highest of
-   the codeword's b bits, all of the codeword, or any two bits. */
+/* Changes a record that was sent as a point of the shell: its place, its row, its radius number, a bit of its codeword,
+   the highest of the codeword's b bits, all of the codeword, or any two bits. */
 static void change_once(uint8_t *record, struct shell shell)
 {
     const uint64_t highest = least_power_from(points_of(shell)) / 2, choice = chance_below(10);

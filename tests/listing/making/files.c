@@ -1,4 +1,5 @@
-/* The files of a case: a folder with `pairing.bin` and `records.bin`, where there are such, and the expected text, where it is known. */
+/* The files of a case: a folder with `pairing.bin` and `records.bin`, where there are such, and the expected text,
+   where it is known. */
 
 #include "../listing.h"
 

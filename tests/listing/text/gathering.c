@@ -1,5 +1,6 @@
-/* What came for each place of a table. The page is not made step by step: of all that came for a place the first record is kept, and
-   whether any other differs from it, so that the order plays no part. Document 01, "The page" and "Listing program". */
+/* What came for each place of a table. The page is not made step by step: of all that came for a place the first record
+   is kept, and whether any other differs from it, so that the order plays no part. See docs/RULES.md, "The page" and
+   "Listing program". */
 
 #include "../listing.h"
 
@@ -10,7 +11,8 @@ void begin_gathering(struct gathering *to, uint64_t places)
     *to = (struct gathering){.places = places};
 }
 
-/* One part of a capture. "A taken record claims its place if that place is in the table"; any other part is a refused take. */
+/* One part of a capture. "A taken record claims its place if that place is in the table"; any other part is
+   a refused take. */
 void gather(struct gathering *to, const uint8_t *part, uint64_t size)
 {
     const uint64_t place = size == RECORD_SIZE ? two_bytes(part + AT_PLACE) : to->places;

@@ -1,4 +1,4 @@
-/* The text of a listing; document 01, "Listing program". */
+/* The text of a listing; docs/RULES.md, "Listing program". */
 
 #include "../listing.h"
 

@@ -1,5 +1,5 @@
-/* The refusals 7, 8, 4 and 11 of quantize, each alone and together with others of them, so that the order of checks is compared too;
-   document 01, "Refusal numbers". */
+/* The refusals 7, 8, 4 and 11 of quantize, each alone and together with others of them, so that the order of checks is
+   compared too; docs/RULES.md, "Refusal numbers" and "Order of checks". */
 
 #include "comparisons.h"
 
@@ -76,8 +76,8 @@ static void compare_sets(void)
     }
 }
 
-/* Tables by chance that are good or nearly so, with any place, and in every other vector all the rest wrong. Where the table is good
-   the own quantizer says what follows. */
+/* Tables by chance that are good or nearly so, with any place, and in every other vector all the rest wrong. Where the
+   table is good the own quantizer says what follows. */
 static void compare_bad_tables(void)
 {
     for (int i = 0; i < BAD_TABLES; i++) {
@@ -97,7 +97,8 @@ static void compare_bad_tables(void)
     }
 }
 
-/* Every size of a table of good rows, and sizes that are good only where a number is cut, with the rest right and with it wrong. */
+/* Every size of a table of good rows, and sizes that are good only where a number is cut, with the rest right and
+   with it wrong. */
 static void compare_sizes(void)
 {
     const uint64_t cut[] = {65536 + 16, 65536 + 512, TWO_TO_32 + 16, TWO_TO_32 + 512};
@@ -130,8 +131,8 @@ static void compare_wrong_places(void)
     }
 }
 
-/* Every wrong pair of lengths, and lengths that are right only where a number is cut: the call may look at nothing, since the lengths
-   alone are wrong. */
+/* Every wrong pair of lengths, and lengths that are right only where a number is cut: the call may look at nothing,
+   since the lengths alone are wrong. */
 static void compare_lengths(const struct vector *vector)
 {
     const uint64_t cut[] = {256, 65536, TWO_TO_32};

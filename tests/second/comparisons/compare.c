@@ -1,5 +1,6 @@
-/* One comparison of one call with what is expected of it. The first difference ends the program, with the call, the shell or the
-   table, what was expected and what came. What a call is lent lies among guards; only a point that is answered may change it. */
+/* One comparison of one call with what is expected of it. The first difference ends the program, with the call, the
+   shell or the table, what was expected and what came. What a call is lent lies among guards; only a point that is
+   answered may change it. */
 
 #include "comparisons.h"
 

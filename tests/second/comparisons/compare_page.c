@@ -1,5 +1,5 @@
-/* One comparison of take, or of collect, with the rules in rules/page.c. What a call is lent lies among guards, and every byte of it is
-   compared afterwards: only the page may change, and only as those rules say. */
+/* One comparison of take, or of collect, with the rules in rules/page.c. What a call is lent lies among guards, and
+   every byte of it is compared afterwards: only the page may change, and only as those rules say. */
 
 #include "../kinds/page_kinds.h"
 #include "comparisons.h"

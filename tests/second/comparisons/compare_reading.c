@@ -1,6 +1,6 @@
-/* One comparison of read, of coefficient or of the tally with the rules in rules/page.c, by each item that they answer and at times by one
-   past the end. What a call is lent lies among guards, and every byte of it is compared afterwards: only the output of read may
-   change, and only where there is no refusal. */
+/* One comparison of read, of coefficient or of the tally with the rules in rules/page.c, by each item that they answer
+   and at times by one past the end. What a call is lent lies among guards, and every byte of it is compared afterwards:
+   only the output of read may change, and only where there is no refusal. */
 
 #include "../kinds/page_kinds.h"
 #include "comparisons.h"

@@ -1,5 +1,5 @@
-/* One comparison of quantize with what is expected of it, by both of its calls. What they are lent lies among guards, and every byte
-   of it is compared afterwards: only the record may change, and only where there is no refusal. */
+/* One comparison of quantize with what is expected of it, by both of its calls. What they are lent lies among guards,
+   and every byte of it is compared afterwards: only the record may change, and only where there is no refusal. */
 
 #include "comparisons.h"
 
@@ -9,8 +9,8 @@
 
 enum { LENT_TABLE = ROW_SIZE * MOST_LENT_ROWS, MOST_LENT_RECORD = 16 /* the room for the record that a call is lent */ };
 
-/* All that a call is lent; what of the coefficients and of the record is beyond their lengths guards them too. The calls take the
-   bits for floats; here nothing is done with a float. */
+/* All that a call is lent; what of the coefficients and of the record is beyond their lengths guards them too. The
+   calls take the bits for floats; here nothing is done with a float. */
 struct room {
     uint8_t table[GUARDS + LENT_TABLE + GUARDS];
     union {
@@ -20,7 +20,8 @@ struct room {
     uint8_t record[GUARDS + MOST_LENT_RECORD + GUARDS];
 };
 
-/* Guards among the coefficients are usable numbers and NaN in turn. No byte of the room for the record is what it must become. */
+/* Guards among the coefficients are usable numbers and NaN in turn. No byte of the room for the record is what
+   it must become. */
 static struct room lend(const struct vector *vector, const struct answer *expected)
 {
     struct room room;

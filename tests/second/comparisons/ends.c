@@ -1,5 +1,5 @@
-/* The first and the last point of every range of every usable shell, and so of every shell; document 01, "The product index", in
-   the order that listing.c explains. These points are written down directly. */
+/* The first and the last point of every range of every usable shell, and so of every shell; docs/RULES.md, "The product
+   index", in the order that listing.c explains. These points are written down directly. */
 
 #include "comparisons.h"
 

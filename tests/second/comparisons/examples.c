@@ -1,5 +1,5 @@
-/* The points and counts that document 01 gives, under "Points and counts" and "Proofs of single values". They also hold the program's
-   own ranking to the document. */
+/* The points and counts that docs/RULES.md gives, under "Points and counts" and "Worked cases". They also hold the
+   program's own ranking to that page. */
 
 #include "comparisons.h"
 
@@ -41,7 +41,7 @@ void compare_examples(void)
 {
     for (uint64_t i = 0; i < ENTRIES(points); i++) {
         if (rank(points[i].shell, points[i].point) != points[i].index)
-            own_error("its ranking and an example of document 01 differ", points[i].shell);
+            own_error("its ranking and an example of the rules differ", points[i].shell);
         expect_index(points[i].shell, points[i].point, points[i].shell.length, points[i].index);
         expect_point(points[i].shell, points[i].index, points[i].point);
     }

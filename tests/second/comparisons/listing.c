@@ -1,16 +1,18 @@
-/* Every point of the small shells, made one after the other in the order of document 01, "The product index", and numbered by
-   counting. No formula for a count is used here.
+/* Every point of the small shells, made one after the other in the order of docs/RULES.md, "The product index", and
+   numbered by counting. No formula for a count is used here.
 
-   The order, read from the bullets:
+   The order, read from that page:
    - Ranges run from s = m down to 1, so the points with the most nonzero coordinates come first.
    - Index = start + (pattern x S + shape) x 2^s + sign: the pattern changes slowest, then the shape, then the signs.
-   - Pattern: a nonzero first coordinate adds D(s,l-1), which is how many patterns have a zero there. So those come first:
-     zero before nonzero, the first coordinate slowest.
-   - Shape: a first magnitude i adds S(s,k) - S(s,k-i+1). The second is how many shapes have a first magnitude of i or more (take
-     i-1 off it), so the difference is how many have a smaller one. Small magnitudes come first, the first magnitude slowest.
+   - Pattern: a nonzero first coordinate adds D(s,l-1), which is how many patterns have a zero there. So those come
+     first: zero before nonzero, the first coordinate slowest.
+   - Shape: a first magnitude i adds S(s,k) - S(s,k-i+1). The second is how many shapes have a first magnitude of i or
+     more (take i-1 off it), so the difference is how many have a smaller one. Small magnitudes come first, the first
+     magnitude slowest.
    - Sign: the first nonzero coordinate has the highest bit, 1 for negative. Positive before negative, the first slowest.
 
-   Length 3, radius 2, from 0: (0,1,1) (0,1,-1) (0,-1,1) (0,-1,-1) (1,0,1) .. (-1,-1,0) (0,0,2) (0,0,-2) (0,2,0) .. (-2,0,0). */
+   Length 3, radius 2, from 0: (0,1,1) (0,1,-1) (0,-1,1) (0,-1,-1) (1,0,1) .. (-1,-1,0) (0,0,2) (0,0,-2) (0,2,0) ..
+   (-2,0,0). */
 
 #include "comparisons.h"
 
@@ -31,7 +33,8 @@ struct listing {
 
 static uint64_t shells_listed, points_listed;
 
-/* The point is whole: its number is its index. The program's own ranking, and its way back, are held to the listing too. */
+/* The point is whole: its number is its index. The program's own ranking, and its way back, are held to
+   the listing too. */
 static void list_point(struct listing *to)
 {
     int32_t point[MOST_LENGTH];
@@ -58,8 +61,8 @@ static void list_signs(struct listing *to, uint64_t from)
     list_signs(to, from + 1);
 }
 
-/* Magnitudes, with sum `sum`, of the nonzero coordinates from number `from` on: the smallest first. Each later one needs 1 or more,
-   and the last one has what is left. */
+/* Magnitudes, with sum `sum`, of the nonzero coordinates from number `from` on: the smallest first. Each later one
+   needs 1 or more, and the last one has what is left. */
 static void list_shapes(struct listing *to, uint64_t from, uint64_t sum)
 {
     uint64_t later = to->s - from - 1;
@@ -72,7 +75,8 @@ static void list_shapes(struct listing *to, uint64_t from, uint64_t sum)
     }
 }
 
-/* Patterns of the coordinates from `at` on, `nonzero` of them nonzero: a zero, where enough coordinates are left, then a nonzero. */
+/* Patterns of the coordinates from `at` on, `nonzero` of them nonzero: a zero, where enough coordinates are left,
+   then a nonzero. */
 static void list_patterns(struct listing *to, uint64_t at, uint64_t nonzero)
 {
     if (at == to->shell.length) {

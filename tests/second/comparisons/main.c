@@ -1,5 +1,5 @@
-/* The second program: compares the calls of probe.h with document 01 by means of its own, and says what it compared. The first
-   difference ends it with status 1. */
+/* The second program: compares the calls of probe.h with docs/RULES.md by means of its own, and says what it compared.
+   The first difference ends it with status 1. */
 
 #include "../kinds/kinds.h"
 #include "comparisons.h"

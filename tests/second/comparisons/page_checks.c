@@ -1,5 +1,5 @@
-/* The refusals of the calls of the page, each alone and together with others, so that the order of checks is compared too; every
-   state; and bad tables of every kind. Document 01, "Refusal numbers". */
+/* The refusals of the calls of the page, each alone and together with others, so that the order of checks is compared
+   too; every state; and bad tables of every kind. See docs/RULES.md, "Refusal numbers" and "Order of checks". */
 
 #include "../draws/page_draws.h"
 #include "comparisons.h"
@@ -31,8 +31,8 @@ static uint64_t tally_of(const struct case_of_page *of)
     return compare_tally(&of->table, &page).items[0];
 }
 
-/* "Take: 7, 4, 8, 12. Read a place: 7, 8, 4, 12. One coefficient: 7, 8, 4, 13, 12. Tally: 7, 4, 12." Take is last: it may change the
-   page. */
+/* "Take: 7, 4, 8, 12. Read a place: 7, 8, 4, 12. One coefficient: 7, 8, 4, 13, 12. Tally: 7, 4, 12." Take is last: it
+   may change the page. */
 static void compare_set(const struct case_of_page *wrong, int set)
 {
     const uint64_t cell = set & WRONG_CELL ? 12 : 0, cell_or_13 = set & WRONG_COORDINATE ? 13 : cell;
@@ -66,7 +66,8 @@ static void compare_all_calls(const struct case_of_page *of)
     compare_run(&of->table, &page, &run);
 }
 
-/* Bad tables with a page as large as the rows would have it, as far as there is room, or of a wrong size; the rest right or wrong. */
+/* Bad tables with a page as large as the rows would have it, as far as there is room, or of a wrong size; the rest
+   right or wrong. */
 static void compare_bad_tables(void)
 {
     const struct table good = small_table_by_chance();
@@ -90,7 +91,8 @@ static void compare_bad_tables(void)
     }
 }
 
-/* Every size of a table of good rows, and sizes that are good only where a number is cut. The page fits where the table is good. */
+/* Every size of a table of good rows, and sizes that are good only where a number is cut. The page fits where the
+   table is good. */
 static void compare_sizes(void)
 {
     const uint64_t cut[] = {65536 + 16, 65536 + 512, TWO_TO_32 + 16, TWO_TO_32 + 512};
@@ -104,8 +106,8 @@ static void compare_sizes(void)
     }
 }
 
-/* Every length of the record and of the output, and lengths that are right only where a number is cut: the calls may look at nothing,
-   since the lengths alone are wrong. */
+/* Every length of the record and of the output, and lengths that are right only where a number is cut: the calls may
+   look at nothing, since the lengths alone are wrong. */
 static void compare_lengths(void)
 {
     const uint64_t cut[] = {256, 65536, TWO_TO_32};

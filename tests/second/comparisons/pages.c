@@ -1,5 +1,5 @@
-/* The page: the whole case of document 01, "Listing program", and then all that is compared by chance, in the files that are named
-   so. The draws begin anew here, so that they do not depend on the comparisons before. */
+/* The page: the whole case of docs/RULES.md, "Worked cases", and then all that is compared by chance, in the files that
+   are named so. The draws begin anew here, so that they do not depend on the comparisons before. */
 
 #include "../kinds/page_kinds.h"
 #include "comparisons.h"
@@ -41,7 +41,7 @@ static void compare_whole_place(uint64_t place)
     own_figure("refusal at the length in the whole case", compare_coefficient(&question).items[0], 13);
 }
 
-/* It holds the program's own rules to the document too. */
+/* The whole case holds the program's own rules to docs/RULES.md too. */
 static void compare_whole_case(void)
 {
     struct arrival run = {.length = sizeof records_bin};

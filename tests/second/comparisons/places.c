@@ -1,5 +1,5 @@
-/* Reading places and single coefficients: in every usable shell the codewords beside which the answer changes and others, and any
-   cells, places, lengths and coordinates by chance. Document 01, "The page". */
+/* Reading places and single coefficients: in every usable shell the codewords beside which the answer changes and
+   others, and any cells, places, lengths and coordinates by chance. See docs/RULES.md, "The page". */
 
 #include "../draws/page_draws.h"
 #include "comparisons.h"
@@ -30,7 +30,8 @@ static void compare_place(const struct table *table, uint64_t place, int is_all)
         compare_coefficient(&(struct question){table, &page, place, coordinate});
 }
 
-/* A codeword for number i: those beside which the answer changes, then below N, mended, and 2^b or more where there are such. */
+/* A codeword for number i: those beside which the answer changes, then below N, mended, and 2^b or more where
+   there are such. */
 static uint64_t codeword_of_number(struct shell shell, uint64_t i)
 {
     const uint64_t n = points_of(shell), bounds[] = {0, n, least_power_from(n), TWO_TO_32};
@@ -67,7 +68,8 @@ static void compare_shell(struct shell shell)
         compare_codewords(shell);
 }
 
-/* Anything that can be asked: a new cell for the place, at times at fault; a place, a length or a coordinate that is not right. */
+/* Anything that can be asked: a new cell for the place, at times at fault; a place, a length or a coordinate
+   that is not right. */
 static void compare_question(const struct table *table)
 {
     const uint64_t right = some_place(table), length = row_at(table, right)[AT_LENGTH], size = page.size;

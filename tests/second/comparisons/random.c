@@ -1,5 +1,6 @@
-/* Indices and points by chance in every usable shell: the point of an index lies on the shell and has that index, a point is the
-   point of its index, and both agree with the ranking of rules/ranking.c; document 01, "The product index". */
+/* Indices and points by chance in every usable shell: the point of an index lies on the shell and has that index,
+   a point is the point of its index, and both agree with the ranking of rules/ranking.c; docs/RULES.md, "The
+   product index". */
 
 #include "comparisons.h"
 

@@ -1,6 +1,7 @@
-/* Refusals 1, 2, 3, 4 and 6 of the first three calls, each together with everything that would be refused later, so that the order of
-   checks is compared too; document 01, "Refusal numbers". Refusals 5 and 7 have files of their own, sums.c and tables.c;
-   those of quantize are in checks.c, and those of the page in page_checks.c. */
+/* Refusals 1, 2, 3, 4 and 6 of the first three calls, each together with everything that would be refused later, so
+   that the order of checks is compared too; docs/RULES.md, "Refusal numbers" and "Order of checks". Refusals 5 and 7
+   have files of their own, sums.c and tables.c; those of quantize are in checks.c, and those of the page in
+   page_checks.c. */
 
 #include "comparisons.h"
 
@@ -9,7 +10,8 @@ static const uint64_t bad_radii[] = {33, 34, TWO_TO_32, TWO_TO_32 + 1, TWO_TO_32
 
 static uint64_t unusable;
 
-/* One lent length: index with magnitudes that sum to k, with zeros and with the lowest values, point with all kinds of indices. */
+/* One lent length: index with magnitudes that sum to k, with zeros and with the lowest values, point with all
+   kinds of indices. */
 static void refuse_buffer(struct shell shell, uint64_t lent, uint32_t refusal)
 {
     int32_t point[MOST_LENT] = {(int32_t)(shell.radius < TWO_TO_32 ? shell.radius : 0)};
@@ -58,8 +60,8 @@ static void refuse_unusable(struct shell shell)
     }
 }
 
-/* Every other length of a buffer up to the room for it, and one that is l where a number is cut to 32 bits: the call may look
-   at nothing of that one, since its length alone is wrong. */
+/* Every other length of a buffer up to the room for it, and one that is l where a number is cut to 32 bits: the call
+   may look at nothing of that one, since its length alone is wrong. */
 static void refuse_wrong_buffers(struct shell shell)
 {
     expect_refused_without_buffer(shell, 0, 4);

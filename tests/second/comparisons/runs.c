@@ -1,5 +1,6 @@
-/* Collecting runs of bytes by chance: records that are taken or refused, repeated, nearly repeated and reordered, and a shorter last
-   part. A run in another order must leave the same page, and as many refused takes. Document 01, "The page" and "Listing program". */
+/* Collecting runs of bytes by chance: records that are taken or refused, repeated, nearly repeated and reordered, and a
+   shorter last part. A run in another order must leave the same page, and as many refused takes. See docs/RULES.md,
+   "The page" and "Order of checks". */
 
 #include "../draws/page_draws.h"
 #include "../kinds/page_kinds.h"
@@ -15,8 +16,8 @@ enum manner { CLEAN, MIXED, OUTSIDE, MANNERS };
 
 static struct page page, start, first;
 
-/* The part at the end of a run: one that was there before, the same but for one byte, one that is not in the table, any bytes, or a
-   record that claims one of few places. */
+/* The part at the end of a run: one that was there before, the same but for one byte, one that is not in the table, any
+   bytes, or a record that claims one of few places. */
 static void part_by_chance(const struct table *table, const uint64_t *places, enum manner manner, uint8_t *run, uint64_t at)
 {
     const uint64_t choice = manner == OUTSIDE ? 6 : chance_below(manner == CLEAN ? 6 : 8);
@@ -67,8 +68,8 @@ static struct arrival in_another_order(const struct arrival *run)
     return other;
 }
 
-/* What a run makes of an empty place, by all that claim it together: nothing claims it; all that do are equal; or two differ. The
-   program's own rules are held to it. */
+/* What a run makes of an empty place, by all that claim it together: nothing claims it; all that do are equal; or two
+   differ. The program's own rules are held to it. */
 static void check_place(const struct arrival *run, uint64_t place)
 {
     const uint8_t *claims = 0;
@@ -122,8 +123,8 @@ static void compare_runs_of(const struct table *table, int is_from_empty, int ha
     }
 }
 
-/* A run of so many takes that their number needs more than two bytes, by one call with each copy of the page. It is made of pieces,
-   of which the program's own rules take one after the other. */
+/* A run of so many takes that their number needs more than two bytes, by one call with each copy of the page. It is
+   made of pieces, of which the program's own rules take one after the other. */
 static void compare_long_run(void)
 {
     static uint8_t bytes[PIECES * MOST_RUN];

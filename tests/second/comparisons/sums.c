@@ -1,5 +1,5 @@
-/* Refusal 5, in every usable shell: magnitudes that do not sum to k, among them those that would where a sum wraps; document 01,
-   "Refusal numbers", and "Points and counts": any coordinate may be the lowest value there is. */
+/* Refusal 5, in every usable shell: magnitudes that do not sum to k, among them those that would where a sum wraps;
+   docs/RULES.md, "Refusal numbers", and "Points and counts": any coordinate may be the lowest value there is. */
 
 #include "comparisons.h"
 
@@ -54,7 +54,8 @@ static void refuse_extremes(struct shell shell, int32_t extreme, int32_t other)
     }
 }
 
-/* Magnitudes with a given sum: as much as a coordinate can hold from the first on, from the last on, or about the same in each. */
+/* Magnitudes with a given sum: as much as a coordinate can hold from the first on, from the last on, or about
+   the same in each. */
 static void refuse_sum(struct shell shell, uint64_t sum)
 {
     uint64_t front[MOST_LENGTH], back[MOST_LENGTH], even[MOST_LENGTH], left = sum;
@@ -73,8 +74,8 @@ static void refuse_sum(struct shell shell, uint64_t sum)
     refuse_point(shell, point);
 }
 
-/* Sums that are k where a number is cut or wraps: k and a power of two, then k and each multiple of 2^31 up to the largest that
-   l coordinates can have. */
+/* Sums that are k where a number is cut or wraps: k and a power of two, then k and each multiple of 2^31 up to the
+   largest that l coordinates can have. */
 static void refuse_wrapping_sums(struct shell shell)
 {
     for (uint64_t power = 1; power < LOWEST_MAGNITUDE; power *= 2)

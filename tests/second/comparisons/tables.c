@@ -1,5 +1,5 @@
-/* The check of a pairing table, held to rules/pairing.c: every size, every value of every byte of good tables, and tables by
-   chance that are good or nearly so; document 01, "Pairing table" and, for refusal 7, "Refusal numbers". */
+/* The check of a pairing table, held to rules/pairing.c: every size, every value of every byte of good tables, and
+   tables by chance that are good or nearly so; docs/RULES.md, "Pairing table" and, for refusal 7, "Refusal numbers". */
 
 #include "comparisons.h"
 
@@ -35,7 +35,7 @@ static const char *const sorts[SORTS] = {
     [MORE_BAD_ROWS] = "with more than one bad row",
 };
 
-/* The table of document 01, "Listing program". */
+/* The table of the whole case. */
 const struct table pairing_bin = {16, {3, 2, 0, 2, [AT_STEP] = 1, 0, [AT_PLACES] = 0, 2}};
 
 static uint64_t occurred[SORTS], good, refused;
@@ -53,15 +53,16 @@ static struct judgment compare_table(const struct table *table)
     return judgment;
 }
 
-/* The whole case holds the program's own rules to the document too. */
+/* The whole case holds the program's own rules to docs/RULES.md too. */
 static void compare_whole_case(void)
 {
     const struct judgment judgment = compare_table(&pairing_bin);
-    own_figure("faults of the table of document 01", judgment.faults, 0);
-    own_figure("places of the table of document 01", judgment.places, 2);
+    own_figure("faults of the table of the whole case", judgment.faults, 0);
+    own_figure("places of the table of the whole case", judgment.places, 2);
 }
 
-/* No table; every size of runs of good rows, every other run with a bad row above 0: a wrong size is judged before any row. */
+/* No table; every size of runs of good rows, every other run with a bad row above 0: a wrong size is judged
+   before any row. */
 static void compare_sizes(void)
 {
     expect_check_without_table();
@@ -75,7 +76,8 @@ static void compare_sizes(void)
     }
 }
 
-/* Sizes that are good where a number is cut to 16 or 32 bits: the call may look at no byte, since the size alone is wrong. */
+/* Sizes that are good where a number is cut to 16 or 32 bits: the call may look at no byte, since the size
+   alone is wrong. */
 static void compare_cut_sizes(void)
 {
     const uint64_t sizes[] = {65536 + 16, 65536 + 512, TWO_TO_32 + 16, TWO_TO_32 + 512};

@@ -1,5 +1,6 @@
-/* Taking records by chance into pages of good tables: into cells of every state, records that are held already, that differ in one
-   byte or in several, that are not in the table, and lengths that are wrong. Document 01, "The page". */
+/* Taking records by chance into pages of good tables: into cells of every state, records that are held already,
+   that differ in one byte or in several, that are not in the table, and lengths that are wrong. See
+   docs/RULES.md, "The page". */
 
 #include "../draws/page_draws.h"
 #include "comparisons.h"

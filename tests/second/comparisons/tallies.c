@@ -1,5 +1,5 @@
-/* Tallies of whole pages: of cells of every kind, of cells with one answer alone, with none, one or several cells at fault, and with
-   wrong sizes. Document 01, "The page". */
+/* Tallies of whole pages: of cells of every kind, of cells with one answer alone, with none, one or several cells at
+   fault, and with wrong sizes. See docs/RULES.md, "The page". */
 
 #include "../draws/page_draws.h"
 #include "comparisons.h"
@@ -43,7 +43,8 @@ static void spoil_place(uint64_t place)
     set_cell(&page, place, cell);
 }
 
-/* A page without faults; with one, often at the last place; of a wrong size besides; and with another one, often at the first. */
+/* A page without faults; with one, often at the last place; of a wrong size besides; and with another one,
+   often at the first. */
 static void compare_with_faults(const struct table *table)
 {
     page_by_chance(&page, table, 0);

@@ -1,5 +1,5 @@
-/* Quantizing vectors into records: the cases of document 01, every place of some tables, and vectors by chance on good tables, near
-   every tie or anywhere; document 01, "Quantizing into a record" and "Proofs of single values". */
+/* Quantizing vectors into records: the cases of the rules, every place of some tables, and vectors by chance on good
+   tables, near every tie or anywhere; docs/RULES.md, "Quantizing into a record" and "Worked cases". */
 
 #include "../kinds/kinds.h"
 #include "comparisons.h"
@@ -61,7 +61,7 @@ uint32_t compare_vector(const struct vector *vector)
     return made.answer.refusal;
 }
 
-/* The cases hold the program's own quantizer to the document too. */
+/* The cases hold the program's own quantizer to docs/RULES.md too. */
 static void compare_cases(void)
 {
     for (uint64_t i = 0; i < ENTRIES(cases); i++) {
@@ -71,10 +71,10 @@ static void compare_cases(void)
         for (uint64_t j = 0; j < vector.length; j++)
             vector.coefficients[j] = cases[i].coefficients[j];
         const struct quantizing made = quantize(&vector);
-        own_figure("refusal of a case of document 01", made.answer.refusal, cases[i].answer.refusal);
-        own_figure("value of a case of document 01", made.answer.value, cases[i].answer.value);
+        own_figure("refusal of a case of the rules", made.answer.refusal, cases[i].answer.refusal);
+        own_figure("value of a case of the rules", made.answer.value, cases[i].answer.value);
         for (int j = 0; j < RECORD_SIZE; j++)
-            own_figure("byte of a record of document 01", made.answer.record[j], cases[i].answer.record[j]);
+            own_figure("byte of a record of the rules", made.answer.record[j], cases[i].answer.record[j]);
         expect_quantize(&vector, &cases[i].answer);
     }
 }

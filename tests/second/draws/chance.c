@@ -35,7 +35,8 @@ void sign_by_chance(const uint64_t *magnitudes, uint64_t length, int32_t *point)
     }
 }
 
-/* A point of a shell, radius above 0: how many coordinates are nonzero, which, their magnitudes in lumps, and the signs. */
+/* A point of a shell, radius above 0: how many coordinates are nonzero, which, their magnitudes in lumps,
+   and the signs. */
 void point_by_chance(struct shell shell, int32_t *point)
 {
     uint64_t magnitudes[MOST_LENGTH] = {0}, chosen[MOST_LENGTH], have = 0;
@@ -53,7 +54,8 @@ void point_by_chance(struct shell shell, int32_t *point)
     sign_by_chance(magnitudes, shell.length, point);
 }
 
-/* Radii of a row: 0, then others, each larger than the one before and usable, often the largest usable one as the last. */
+/* Radii of a row: 0, then others, each larger than the one before and usable, often the largest usable
+   one as the last. */
 static void radii_by_chance(uint64_t length, uint64_t number, uint8_t *radii)
 {
     const uint64_t largest = largest_radius(length);
@@ -111,8 +113,9 @@ static void change_byte(struct table *table)
     *byte = (uint8_t)(*byte + change[chance_below(ENTRIES(change))]);
 }
 
-/* Good rows, the total often aimed at 4,096 or a little off it, or at what is below it where a number is cut to 16 bits; then none,
-   one or two bytes changed, and at times the size, by at most a row. A good row lies beyond the last one. */
+/* Good rows, the total often aimed at 4,096 or a little off it, or at what is below it where a number is cut
+   to 16 bits; then none, one or two bytes changed, and at times the size, by at most a row. A good row lies
+   beyond the last one. */
 struct table table_by_chance(void)
 {
     const uint64_t many[] = {1, 2, 16, 17, 31, 32}, totals[] = {4095, 4096, 4097, 4098, 65536, 65537, 65536 + 4095};

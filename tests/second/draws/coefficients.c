@@ -1,6 +1,6 @@
-/* Vectors by chance. Most are made backwards: a sum A at or beside a tie of two radii of the row, or nearest to one of them; parts of
-   it as magnitudes, often with equal or nearly equal remainders; and for each a coefficient that is rounded to it, often from a half
-   or from beside one. Document 01, "Quantizing into a record". */
+/* Vectors by chance. Most are made backwards: a sum A at or beside a tie of two radii of the row, or nearest to one of
+   them; parts of it as magnitudes, often with equal or nearly equal remainders; and for each a coefficient that is
+   rounded to it, often from a half or from beside one. See docs/RULES.md, "Quantizing into a record". */
 
 #include "draws.h"
 
@@ -14,8 +14,8 @@ struct parts {
     uint64_t magnitudes[MOST_LENGTH];
 };
 
-/* A sum near the radius with that number: on the middle to the next radius, one beside it, on k x step, or anywhere where k is
-   nearest. Past the last radius, sums of all sizes. */
+/* A sum near the radius with that number: on the middle to the next radius, one beside it, on k x step, or anywhere
+   where k is nearest. Past the last radius, sums of all sizes. */
 static uint64_t sum_by_chance(const uint8_t *row, uint64_t number)
 {
     const uint8_t *radius = row + AT_RADII + number;
@@ -44,7 +44,8 @@ static void part_in_lumps(struct parts *parts)
     }
 }
 
-/* Equal parts of some coordinates; what is left goes to one coordinate, of these or another, or singly to the first of these. */
+/* Equal parts of some coordinates; what is left goes to one coordinate, of these or another, or singly to the
+   first of these. */
 static void part_evenly(struct parts *parts)
 {
     const uint64_t equal = 1 + chance_below(parts->shell.length), left = parts->sum % equal;
@@ -57,7 +58,8 @@ static void part_evenly(struct parts *parts)
             parts->magnitudes[parts->order[i]]++;
 }
 
-/* In the ratio of the coordinates of a point of the shell, as far as whole numbers allow: remainders near 0 or near A. */
+/* In the ratio of the coordinates of a point of the shell, as far as whole numbers allow: remainders
+   near 0 or near A. */
 static void part_like_a_point(struct parts *parts)
 {
     int32_t point[MOST_LENGTH];
@@ -71,8 +73,8 @@ static void part_like_a_point(struct parts *parts)
         parts->magnitudes[chance_below(parts->shell.length)]++;
 }
 
-/* With A = k x t, a magnitude leaves the remainder k x (a modulo t). Here a is modulo t the same in some coordinates, and one more
-   brings the sum to a multiple of t; multiples of t make the magnitudes differ. */
+/* With A = k x t, a magnitude leaves the remainder k x (a modulo t). Here a is modulo t the same in some coordinates,
+   and one more brings the sum to a multiple of t; multiples of t make the magnitudes differ. */
 static void part_with_equal_remainders(struct parts *parts)
 {
     const uint64_t k = parts->shell.radius, t = parts->sum / k, equal = 2 + chance_below(parts->shell.length - 1);
@@ -112,7 +114,8 @@ static int is_too_large(const struct parts *parts)
     return is_there;
 }
 
-/* Bits that are rounded to a magnitude below 2^23: it itself, the half above or below or the number beside it, or any between. */
+/* Bits that are rounded to a magnitude below 2^23: it itself, the half above or below or the number beside it,
+   or any between. */
 static uint32_t bits_rounded_to(uint64_t a)
 {
     const uint32_t above = bits_of(2 * a + 1, 9), below = a > 0 ? bits_of(2 * a - 1, 9) : 0, is_odd = a % 2;

@@ -1,5 +1,5 @@
-/* Pairing tables for pages, records, cells and pages by chance: good ones, and all that can be wrong with them. Document 01, "The
-   page" and "Quantizing into a record". */
+/* Pairing tables for pages, records, cells and pages by chance: good ones, and all that can be wrong with them. See
+   docs/RULES.md, "The page" and "Quantizing into a record". */
 
 #include "page_draws.h"
 
@@ -46,7 +46,8 @@ struct table bad_table_by_chance(enum fault fault)
     return table;
 }
 
-/* Gives a row the length of a usable shell, and other radii: that of the shell, and more by chance, for which room is kept. */
+/* Gives a row the length of a usable shell, and other radii: that of the shell, and more by chance, for
+   which room is kept. */
 void plant_shell(struct table *table, uint64_t number, struct shell shell)
 {
     uint8_t *row = table->bytes + number * ROW_SIZE;
@@ -116,7 +117,8 @@ void cell_by_chance(const struct table *table, uint64_t place, uint8_t *cell)
         cell[i] = is_zeros ? 0 : (uint8_t)chance_below(256);
 }
 
-/* Makes a cell be at fault: another state, or held with a place number of which the high byte, the low byte or both are changed. */
+/* Makes a cell be at fault: another state, or held with a place number of which the high byte, the low byte or
+   both are changed. */
 void spoil_cell(uint64_t place, uint8_t *cell)
 {
     const uint8_t states[] = {3, 4, 127, 128, 129, 130, 254, 255};
@@ -167,7 +169,8 @@ struct arrival arrival_by_chance(const struct table *table, const struct page *p
     return arrival;
 }
 
-/* A place number of two bytes that is not in the table, often one that is where a number is cut or its bytes are exchanged. */
+/* A place number of two bytes that is not in the table, often one that is where a number is cut or its bytes
+   are exchanged. */
 uint64_t place_past_end(uint64_t places)
 {
     const uint64_t place = chance_below(places), exchanged = place % 256 * 256 + place / 256;
@@ -176,7 +179,8 @@ uint64_t place_past_end(uint64_t places)
     return choice < ENTRIES(past) && past[choice] >= places ? past[choice] : places + chance_below(65536 - places);
 }
 
-/* Another size than 9 x places: near it, of other cells, or right only where a number is cut. The last the call may not look at. */
+/* Another size than 9 x places: near it, of other cells, or right only where a number is cut. The last the call
+   may not look at. */
 uint64_t wrong_page_size(const struct page *page)
 {
     const uint64_t right = CELL_SIZE * page->places, shorter = chance_below(right);

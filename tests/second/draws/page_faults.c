@@ -1,4 +1,5 @@
-/* Calls of the page with several faults at once, and with every state at one place. Document 01, "Refusal numbers". */
+/* Calls of the page with several faults at once, and with every state at one place. See docs/RULES.md, "Refusal
+   numbers" and "Order of checks". */
 
 #include "page_draws.h"
 

@@ -1,5 +1,5 @@
-/* The kinds that one comparison of a call of the page tells, beside those of page_notes.c. Document 01, "The page" and "Refusal
-   numbers". */
+/* The kinds that one comparison of a call of the page tells, beside those of page_notes.c. See docs/RULES.md, "The
+   page" and "Refusal numbers". */
 
 #include "page_kinds.h"
 
@@ -93,7 +93,8 @@ static void note_coordinate(const struct question *question, uint64_t length)
     note_page(COEFFICIENT, HELD_13, cell[AT_STATE] == STATE_HELD && !is_at_fault(cell, question->place));
 }
 
-/* Where the place is not in the table, a length above 16 is no length of an output, and a coordinate above 15 none of a point. */
+/* Where the place is not in the table, a length above 16 is no length of an output, and a coordinate above 15
+   none of a point. */
 void note_reading(enum page_call call, const struct question *question, struct list expected)
 {
     const struct page *page = question->page;

@@ -1,6 +1,6 @@
-/* How many vectors of each kind were compared with quantize. A kind is told from what the program's own quantizer made of a vector,
-   not from how it was drawn. The program ends with an error of its own if there are too few of one, so that the comparison cannot
-   become empty. Document 01, "Quantizing into a record" and "Refusal numbers". */
+/* How many vectors of each kind were compared with quantize. A kind is told from what the program's own quantizer made
+   of a vector, not from how it was drawn. The program ends with an error of its own if there are too few of one, so
+   that the comparison cannot become empty. See docs/RULES.md, "Quantizing into a record" and "Refusal numbers". */
 
 #include "kinds.h"
 #include "lent.h"
@@ -152,7 +152,8 @@ static void require_vectors(struct shell shell)
     require_shell(shells[shell.length][shell.radius], LEAST_OF_SHELL, "vectors", shell);
 }
 
-/* Ends the program unless each kind was compared often enough, and remainders had to be served in a quarter of all records. */
+/* Ends the program unless each kind was compared often enough, and remainders had to be served in a quarter
+   of all records. */
 void require_kinds(void)
 {
     for (int kind = 0; kind < KINDS; kind++)

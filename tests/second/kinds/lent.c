@@ -1,5 +1,5 @@
-/* What a call is lent among guards, and the words for a difference: the table, bytes, what was expected and what came. Nothing here
-   calls what is under test, so that every test can use it. */
+/* What a call is lent among guards, and the words for a difference: the table, bytes, what was expected and what came.
+   Nothing here calls what is under test, so that every test can use it. */
 
 #include "../probe.h" /* for REFUSED alone */
 #include "lent.h"
@@ -30,7 +30,8 @@ int same_table(const struct table_room *one, const struct table_room *other)
     return memcmp(one, other, sizeof *one) == 0;
 }
 
-/* The first byte that differs between two rooms that do differ, counted from the end of the guards that they begin with. */
+/* The first byte that differs between two rooms that do differ, counted from the end of the guards that
+   they begin with. */
 int64_t first_other_byte(const void *one, const void *other)
 {
     const uint8_t *byte = one, *other_byte = other;
@@ -80,7 +81,8 @@ void end(const char *last_words)
     exit(1);
 }
 
-/* What probe_point, probe_check, probe_quantize and aldrynja_take return, as an answer of the first two calls of probe.h. */
+/* What probe_point, probe_check, probe_quantize and aldrynja_take return, as an answer of the first two
+   calls of probe.h. */
 uint64_t as_answer(uint32_t number)
 {
     return number ? REFUSED + number : 0;

@@ -1,5 +1,6 @@
-/* What take, or collect, is lent: the table and what arrives, among guards, and a copy of the page. Every byte of it is compared
-   after a call: only the page may change, and only as the rules in rules/page.c say. Nothing here calls what is under test. */
+/* What take, or collect, is lent: the table and what arrives, among guards, and a copy of the page. Every byte of it is
+   compared after a call: only the page may change, and only as the rules in rules/page.c say. Nothing here calls what
+   is under test. */
 
 #include "lent.h"
 

@@ -1,6 +1,6 @@
-/* How many comparisons of each kind there were with the calls of the page. A kind is told from what the program's own rules made of a
-   case, not from how it was drawn. The program ends with an error of its own if there are too few of one, so that the comparison
-   cannot become empty. Document 01, "The page" and "Refusal numbers". */
+/* How many comparisons of each kind there were with the calls of the page. A kind is told from what the program's own
+   rules made of a case, not from how it was drawn. The program ends with an error of its own if there are too few of
+   one, so that the comparison cannot become empty. See docs/RULES.md, "The page" and "Refusal numbers". */
 
 #include "lent.h"
 #include "page_kinds.h"

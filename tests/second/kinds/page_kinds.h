@@ -1,4 +1,5 @@
-/* The kinds of comparisons of the page that are counted; page_kinds.c has a name for each, and the calls that it is wanted for. */
+/* The kinds of comparisons of the page that are counted; page_kinds.c has a name for each, and the calls that it
+   is wanted for. */
 
 #ifndef SECOND_PAGE_KINDS_H
 #define SECOND_PAGE_KINDS_H

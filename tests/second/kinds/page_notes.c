@@ -1,5 +1,5 @@
-/* The kinds of comparisons of the page that the cell, the place and the refusal tell. Document 01, "The page" and "Refusal
-   numbers". */
+/* The kinds of comparisons of the page that the cell, the place and the refusal tell. See docs/RULES.md, "The page" and
+   "Refusal numbers". */
 
 #include "page_kinds.h"
 
@@ -85,7 +85,8 @@ void note_where(enum page_call call, const struct page *page, uint64_t place, st
     note_page(call, OF_4096_PLACES, page->places == MOST_PLACES);
 }
 
-/* Refusal 7. Where the table is bad, a page of part of a cell, or of none, is wrong too, and so is a place above 4,095. */
+/* Refusal 7. Where the table is bad, a page of part of a cell, or of none, is wrong too, and so is a
+   place above 4,095. */
 static void note_bad_table(enum page_call call, const struct table *table, const struct page *page, uint64_t place)
 {
     const struct judgment judgment = judge(table->bytes, table->size);

@@ -1,5 +1,5 @@
-/* The least numbers of what must have been compared: a test ends with an error of its own where there is less, so that it cannot
-   become empty. */
+/* The least numbers of what must have been compared: a test ends with an error of its own where there is less, so that
+   it cannot become empty. */
 
 #include "lent.h"
 

@@ -1,5 +1,5 @@
-/* The kinds of vectors that are told from the steps of quantizing: rounding, the sum, the remainders and the coefficients themselves.
-   Document 01, "Quantizing into a record". */
+/* The kinds of vectors that are told from the steps of quantizing: rounding, the sum, the remainders and the
+   coefficients themselves. See docs/RULES.md, "Quantizing into a record". */
 
 #include "kinds.h"
 

@@ -1,5 +1,5 @@
-/* A page in three copies: one that the program's own rules change, and two that the calls are lent and change. Whatever is drawn goes
-   into all three, so that they must stay alike, with all that lies around them. */
+/* A page in three copies: one that the program's own rules change, and two that the calls are lent and change. Whatever
+   is drawn goes into all three, so that they must stay alike, with all that lies around them. */
 
 #include "page.h"
 

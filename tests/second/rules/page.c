@@ -1,5 +1,5 @@
-/* The page, by rules of the program's own: what take, collect, read, coefficient and the tally must answer, and what take makes of a
-   cell. Document 01, "The page" and "Refusal numbers". */
+/* The page, by rules of the program's own: what take, collect, read, coefficient and the tally must answer, and what
+   take makes of a cell. See docs/RULES.md, "The page", "Refusal numbers" and "Order of checks". */
 
 #include "page.h"
 
@@ -37,7 +37,7 @@ static struct reading unreadable(uint64_t reason)
     return (struct reading){.word = UNREADABLE, .reason = reason};
 }
 
-/* The held record of a place, its fields judged in the order of the document. */
+/* The held record of a place, its fields judged in the order of the rules. */
 static struct reading read_record(const struct table *table, uint64_t place, const uint8_t *record)
 {
     const uint64_t codeword = codeword_of(record);
@@ -67,8 +67,8 @@ struct reading read_cell(const struct table *table, uint64_t place, const uint8_
     return read_record(table, place, cell + AT_RECORD);
 }
 
-/* "Empty becomes held, with the 8 bytes. Held with the same 8 bytes stays. Held with other bytes becomes contested, its 8 bytes zero.
-   Contested stays." */
+/* "Empty becomes held, with the 8 bytes. Held with the same 8 bytes stays. Held with other bytes becomes contested, its
+   8 bytes zero. Contested stays." */
 static void claim(uint8_t *cell, const uint8_t *record)
 {
     const int is_same = memcmp(cell + AT_RECORD, record, RECORD_SIZE) == 0;
@@ -117,7 +117,8 @@ uint64_t collect(const struct table *table, struct page *page, const struct arri
     return collect_bytes(table, page, run->bytes, run->length);
 }
 
-/* The first three checks of read and of coefficient, which begin alike: "7, 8, 4". The output of coefficient is none. */
+/* The first three checks of read and of coefficient, which begin alike: "7, 8, 4". The output of
+   coefficient is none. */
 static struct list checked(const struct question *question, int has_output)
 {
     const struct judgment judgment = judge(question->table->bytes, question->table->size);
@@ -158,7 +159,8 @@ struct list read_place(const struct question *question, int32_t *point)
     return list.items[0] != 0 ? list : looked_at(question, point);
 }
 
-/* "The value is coordinate x step / 256 as f32. It is exact, and zero is positive zero": its bits, which must lead back. */
+/* "The value is coordinate x step / 256 as f32. It is exact, and zero is positive zero": its bits, which
+   must lead back. */
 static uint32_t value_of(int32_t coordinate, uint64_t step)
 {
     const uint64_t product = magnitude(coordinate) * step;

@@ -1,5 +1,5 @@
-/* The rules of the page: what the calls of the page must answer, and what take makes of a cell; docs/RULES.md, "The
-   page". */
+/* The rules of the page: what the calls of the page must answer, and what take makes of a cell;
+   docs/RULES.md, "The page". */
 
 #ifndef SECOND_PAGE_H
 #define SECOND_PAGE_H
@@ -11,7 +11,7 @@ enum {
     GUARDS = 8,       /* how many guards lie before what a call is lent, and how many behind it */
     CELLS_BEHIND = 2, /* cells that lie behind a page, so that it can be lent too long */
     PAGE_ROOM = GUARDS + CELL_SIZE * (MOST_PLACES + CELLS_BEHIND) + GUARDS,
-    MOST_TAKEN = 17,    /* the bytes of the longest record that is lent, but for those that are right where a number is cut */
+    MOST_TAKEN = 17,    /* the bytes of the longest record that is lent, but for those right where a number is cut */
     MOST_OUTPUT = 20,   /* the numbers of the longest output that is lent, but for the same */
     MOST_RUN = 200,     /* the bytes of the longest run, but for the long ones */
     MOST_ARRIVAL = 208, /* the room for what arrives */

@@ -1,5 +1,5 @@
-/* The rules of a pairing table, document 01, "Pairing table". Every fault of every row is found, not only the first one, so that
-   comparisons/tables.c can tell which faults it compared alone. */
+/* The rules of a pairing table, docs/RULES.md, "Pairing table". Every fault of every row is found, not only the first
+   one, so that comparisons/tables.c can tell which faults it compared alone. */
 
 #include "rules.h"
 
@@ -32,8 +32,8 @@ static uint32_t faults_of_size(uint64_t size)
            fault_if(size > ROW_SIZE * MOST_ROWS, MORE_THAN_32_ROWS);
 }
 
-/* "first 0, each larger than the one before, each usable": the radius at a position within the number. With a bad length no shell
-   is there to be usable or not. */
+/* "first 0, each larger than the one before, each usable": the radius at a position within the number. With a bad
+   length no shell is there to be usable or not. */
 static uint32_t faults_of_radius(const uint8_t *row, uint64_t position)
 {
     const uint8_t *radius = row + AT_RADII + position;
@@ -44,7 +44,8 @@ static uint32_t faults_of_radius(const uint8_t *row, uint64_t position)
     return faults | fault_if(is_between(shell.length, 1, MOST_LENGTH) && !is_usable(shell), RADIUS_NOT_USABLE);
 }
 
-/* "positions beyond the number are 0". With a bad number it is open which positions those are, and the row is bad without them. */
+/* "positions beyond the number are 0". With a bad number it is open which positions those are, and the row is
+   bad without them. */
 static uint32_t faults_of_radii(const uint8_t *row)
 {
     const uint64_t number = row[AT_NUMBER_OF_RADII];

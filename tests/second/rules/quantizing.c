@@ -1,12 +1,13 @@
-/* A vector into a record, document 01, "Quantizing into a record", in whole numbers alone: a coefficient is its bits. The largest
-   remainder is never looked for: a coordinate gets one more if fewer coordinates come before it than there are to hand out. */
+/* A vector into a record, docs/RULES.md, "Quantizing into a record", in whole numbers alone: a coefficient is its bits.
+   The largest remainder is never looked for: a coordinate gets one more if fewer coordinates come before it than there
+   are to hand out. */
 
 #include "rules.h"
 
 enum { FRACTION_BITS = 23, EXPONENTS = 256 };
 
-/* "Every finite f32 is a whole number X, given by its bits, over 2^149": the magnitude of X is digits x 2^twos. The digits are below
-   2^24, and 2^23 or more if twos is above 0. */
+/* "Every finite f32 is a whole number X, given by its bits, over 2^149": the magnitude of X is digits x 2^twos. The
+   digits are below 2^24, and 2^23 or more if twos is above 0. */
 struct whole_number {
     uint64_t digits;
     uint64_t twos;
@@ -37,15 +38,15 @@ int is_negative(uint32_t bits)
     return bits >> 31 != 0;
 }
 
-/* "NaN, infinities and values of magnitude 32,768 or more": X is 2^164 or more, which is 2^23 x 2^141. NaN and infinities have the
-   largest exponent. */
+/* "NaN, infinities and values of magnitude 32,768 or more": X is 2^164 or more, which is 2^23 x 2^141. NaN and
+   infinities have the largest exponent. */
 int is_unusable(uint32_t bits)
 {
     return whole_number(bits).twos >= 141;
 }
 
-/* "the whole number nearest to 256x, ties to even": digits x 2^(twos + 8) against the multiples of 2^149, so digits against those of
-   2^(141 - twos). The digits are below half of 2^40, and so below half of every larger one. */
+/* "the whole number nearest to 256x, ties to even": digits x 2^(twos + 8) against the multiples of 2^149, so digits
+   against those of 2^(141 - twos). The digits are below half of 2^40, and so below half of every larger one. */
 struct rounding nearest(uint32_t bits)
 {
     const struct whole_number x = whole_number(bits);

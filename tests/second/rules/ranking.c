@@ -1,11 +1,12 @@
-/* The index of a point by counting the points that come before it in the order that comparisons/listing.c explains, and the point of an index by
-   counting them off; document 01, "The product index". Patterns are counted by going through all of them, and shapes by their first
-   magnitude: no binomial is used. */
+/* The index of a point by counting the points that come before it in the order that comparisons/listing.c explains, and
+   the point of an index by counting them off; docs/RULES.md, "The product index". Patterns are counted by going through
+   all of them, and shapes by their first magnitude: no binomial is used. */
 
 #include "rules.h"
 
-/* A pattern as a number: the first coordinate has the highest bit, 1 for nonzero. Zero comes before nonzero, the first coordinate
-   slowest, so patterns with as many ones stand in the order of these numbers, and zeros in front change nothing. */
+/* A pattern as a number: the first coordinate has the highest bit, 1 for nonzero. Zero comes before nonzero, the
+   first coordinate slowest, so patterns with as many ones stand in the order of these numbers, and zeros in front
+   change nothing. */
 enum { PATTERNS = 1 << MOST_LENGTH, MOST_ALIKE = 12870 /* patterns of one length and one s: length 16, s = 8 */ };
 
 static uint32_t pattern_index[PATTERNS];
@@ -90,7 +91,8 @@ uint64_t rank(struct shell shell, const int32_t *point)
     return start + ((pattern_index[pattern] * shapes[s][shell.radius] + shape) << s) + sign;
 }
 
-/* The magnitudes of the shape that has so many before it: each is as large as there are shapes with a smaller one to count off. */
+/* The magnitudes of the shape that has so many before it: each is as large as there are shapes with a smaller
+   one to count off. */
 static void magnitudes_of(uint64_t before, uint64_t *magnitudes, uint64_t s, uint64_t sum)
 {
     for (uint64_t i = 0; i < s; i++) {

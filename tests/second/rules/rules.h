@@ -25,7 +25,8 @@ enum {
 #define MINUS(bits) (NEGATIVE | (bits))
 #define ENTRIES(array) (sizeof(array) / sizeof *(array))
 
-/* A length and a radius, so that neither is taken for the other. Where a refusal is asked for, they may be any numbers. */
+/* A length and a radius, so that neither is taken for the other. Where a refusal is asked for, they may
+   be any numbers. */
 struct shell {
     uint64_t length;
     uint64_t radius;
@@ -37,8 +38,8 @@ enum { AT_LENGTH = 0, AT_NUMBER_OF_RADII = 1, AT_RADII = 2, AT_STEP = 10, AT_PLA
 /* Where the fields of a record begin. */
 enum { AT_PLACE = 0, AT_ROW = 2, AT_RADIUS_NUMBER = 3, AT_CODEWORD = 4 };
 
-/* A pairing table: its size in bytes, which may be any number, and the room for its bytes, of which it may leave some
-   unused. */
+/* A pairing table: its size in bytes, which may be any number, and the room for its bytes, of which it may
+   leave some unused. */
 struct table {
     uint64_t size;
     uint8_t bytes[ROW_SIZE * MOST_LENT_ROWS];
@@ -54,8 +55,8 @@ enum {
     BITS_OF_QUIET_NAN = 0x7fc00000 /* from here on; between infinity and this one, NaN is signalling */
 };
 
-/* What quantize is lent, and the place. The lengths may be any numbers; of the room for the coefficients some may be
-   unused. */
+/* What quantize is lent, and the place. The lengths may be any numbers; of the room for the coefficients some
+   may be unused. */
 struct vector {
     struct table table;
     uint64_t place;

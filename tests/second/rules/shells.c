@@ -1,4 +1,4 @@
-/* The shells and N, by the recurrence of document 01, "Points and counts"; and the faults of a test itself. */
+/* The shells and N, by the recurrence of docs/RULES.md, "Points and counts"; and the errors of a test itself. */
 
 #include "rules.h"
 
