@@ -3,8 +3,9 @@
 
 #include "bench.h"
 
-enum { LEAST_ARGUMENTS = 7 };
+enum { LEAST_ARGUMENTS = 7, SEED_OF_DRAWS = 2, SEED = 1 };
 
+/* The draws begin anew before what is measured, so that the inputs do not depend on what compare_draws draws. */
 int main(int words, char **arguments)
 {
     const int is_measured = words > 1;
@@ -13,9 +14,9 @@ int main(int words, char **arguments)
     count_points();
     plain_begin();
     begin_settings();
-    chance_from(2);
+    chance_from(SEED_OF_DRAWS);
     compare_draws();
-    chance_from(1);
+    chance_from(SEED);
     compare_calls();
     if (is_measured)
         begin_measuring();

@@ -13,6 +13,7 @@ size_t fwrite(const void *from, size_t size, size_t number, FILE *to);
 int fclose(FILE *file);
 __attribute__((format(printf, 1, 2))) int printf(const char *format, ...);
 __attribute__((format(printf, 2, 3))) int dprintf(int file, const char *format, ...);
+__attribute__((format(printf, 2, 3))) int fprintf(FILE *to, const char *format, ...);
 __attribute__((format(printf, 3, 4))) int snprintf(char *to, size_t size, const char *format, ...);
 
 #endif
