@@ -1,10 +1,35 @@
-/* Ours and plain C are asked the same. A difference, in the answer or in what a call is lent, is an error; else the answer is returned,
-   of quantize, take and read the refusal number. */
+/* Ours and plain C are asked the same. A difference, in the answer or in what a call is lent, is an error; else the
+   answer is returned, of quantize, take and read the refusal number. */
 
 #include "bench.h"
 
+#include <stdio.h>
+#include <string.h>
+
 enum { ROOM = MOST_LENGTH + 1, GARBAGE = 0x5a }; /* the room for an output, or a record, that is too long */
 enum { ITEM_REFUSAL, ITEM_ANSWER, ITEM_REASON };
+
+/* How often each call was compared, and how many of these comparisons were of refusals. */
+static struct {
+    uint64_t indices;
+    uint64_t points;
+    uint64_t vectors;
+    uint64_t takes;
+    uint64_t places;
+    uint64_t refused;
+} compared;
+
+static void note(uint64_t *calls, int is_refused)
+{
+    ++*calls;
+    compared.refused += is_refused != 0;
+}
+
+void print_compared(void)
+{
+    printf("%lu indices, %lu points, %lu vectors, ", compared.indices, compared.points, compared.vectors);
+    printf("%lu takes, %lu places, %lu of all these refused\n", compared.takes, compared.places, compared.refused);
+}
 
 static void hold(const char *call, uint64_t ours, uint64_t plain, int are_same)
 {
@@ -16,6 +41,7 @@ uint64_t agree_on_index(struct shell shell, const int32_t *point, uint64_t point
 {
     const uint64_t ours = probe_index(shell.length, shell.radius, point, point_length);
     hold("index", ours, plain_index(shell.length, shell.radius, point, point_length), 1);
+    note(&compared.indices, ours >= REFUSED);
     return ours;
 }
 
@@ -26,6 +52,7 @@ uint32_t agree_on_point(struct shell shell, uint64_t index, uint64_t out_length)
     __builtin_memset(other, GARBAGE, sizeof other);
     const uint32_t ours = probe_point(shell.length, shell.radius, index, one, out_length);
     hold("point", ours, plain_point(shell.length, shell.radius, index, other, out_length), memcmp(one, other, sizeof one) == 0);
+    note(&compared.points, ours != 0);
     return ours;
 }
 
@@ -37,6 +64,7 @@ uint32_t agree_on_quantize(const struct table *table, const struct coefficients 
     const uint32_t ours = probe_quantize(table->bytes, table->size, in->place, in->values, in->length, one, record_length);
     const uint32_t plain = plain_quantize(table->bytes, table->size, in->place, in->values, in->length, other, record_length);
     hold("quantize", ours, plain, memcmp(one, other, sizeof one) == 0);
+    note(&compared.vectors, ours != 0);
     return ours;
 }
 
@@ -46,6 +74,7 @@ uint64_t agree_on_take(const struct table *table, uint8_t *page, uint8_t *page_o
     const uint64_t ours = probe_take(table->bytes, table->size, page, size, in->bytes, in->length, ITEM_REFUSAL);
     const uint32_t plain = plain_take(table->bytes, table->size, page_of_plain, size, in->bytes, in->length);
     hold("take", ours, plain, memcmp(page, page_of_plain, size) == 0);
+    note(&compared.takes, ours != 0);
     return ours;
 }
 
@@ -64,5 +93,6 @@ uint64_t agree_on_read(const struct table *table, const uint8_t *page, uint64_t 
         hold("answer of read", ours[ITEM_ANSWER], plain.answer, 1);
         hold("reason of read", ours[ITEM_REASON], plain.reason, 1);
     }
+    note(&compared.places, plain.refusal != 0);
     return plain.refusal;
 }

@@ -1,13 +1,15 @@
-/* The parts of the benchmark: the calls of tests/second/probe.h and the listing program, ours, against plain C of the same. */
+/* The parts of the benchmark: the calls of tests/second/probe.h and the listing program, ours, against plain
+   C of the same. */
 
 #ifndef BENCH_BENCH_H
 #define BENCH_BENCH_H
 
-#include "libc.h"
-#include "plain.h"
+#include "../tests/second/draws/draws.h"
+#include "../tests/second/probe.h"
+#include "plain/plain.h"
 
 enum {
-    INPUTS = 4096, /* of each workload, compared and timed: too many for the processor to know what comes next by heart */
+    INPUTS = 4096, /* of each workload, compared and timed: too many for the processor to know the next by heart */
     COUNTED = 64,  /* those of them that are run step by step */
     NAME = 80      /* the room for the name of a line */
 };
@@ -64,8 +66,9 @@ double steps_of_program(char *const *words, const char *folder, const char *outp
 int start(char *const *words, const char *folder, const char *output, int is_traced);
 void wait_for(int process);
 
-/* measuring.c: a line of the table */
+/* measuring.c: a line of the table; none unless measuring has begun */
 double nanoseconds_now(void);
+void begin_measuring(void);
 void measure(struct rivals rivals);
 
 /* report.c: the tables as Markdown */
@@ -76,12 +79,16 @@ void print_ratio(const char *what, const char *of, double ours, double other);
 void print_slow_lines(void);
 _Noreturn void fail(const char *what, const char *why);
 
-/* agreeing.c: one comparison each; their answer is returned */
+/* agreeing.c: one comparison each; their answer is returned. And how many there were. */
 uint64_t agree_on_index(struct shell shell, const int32_t *point, uint64_t point_length);
 uint32_t agree_on_point(struct shell shell, uint64_t index, uint64_t out_length);
 uint32_t agree_on_quantize(const struct table *table, const struct coefficients *in, uint64_t record_length);
 uint64_t agree_on_take(const struct table *table, uint8_t *page, uint8_t *page_of_plain, uint64_t size, const struct record *in);
 uint64_t agree_on_read(const struct table *table, const uint8_t *page, uint64_t size, uint64_t place, uint64_t out_length);
+void print_compared(void);
+
+/* draws.c: calls with what the second program draws */
+void compare_draws(void);
 
 /* refusals.c: calls by chance, right and wrong */
 void compare_calls(void);
@@ -107,7 +114,8 @@ void begin_settings(void);
 const uint8_t *row_for(const struct setting *setting, uint64_t place);
 void sound_record(const struct setting *setting, uint64_t place, uint8_t *record);
 
-/* The workloads, each in the file that its name says */
+/* The workloads, each in the file that its name says: their inputs are drawn, the answers compared, and the
+   calls measured */
 void bench_points(void);
 void bench_vectors(const struct setting *with);
 void bench_takes(const struct setting *with);

@@ -1,26 +1,36 @@
-/* The benchmark: the calls, ours against plain C, and then the listing program. Its arguments are those of bench_programs. */
+/* The benchmark: the calls, ours against plain C, and then the listing program. Its arguments are those of
+   bench_programs. Without arguments the answers of the calls are compared, and nothing is measured. */
 
 #include "bench.h"
 
-enum { LEAST_ARGUMENTS = 7 };
+enum { LEAST_ARGUMENTS = 7, SEED_OF_DRAWS = 2, SEED = 1 };
 
+/* The draws begin anew before what is measured, so that the inputs do not depend on what compare_draws draws. */
 int main(int words, char **arguments)
 {
-    if (words <= LEAST_ARGUMENTS)
+    const int is_measured = words > 1;
+    if (is_measured && words <= LEAST_ARGUMENTS)
         fail("arguments", "too few");
     count_points();
     plain_begin();
-    chance_from(1);
     begin_settings();
+    chance_from(SEED_OF_DRAWS);
+    compare_draws();
+    chance_from(SEED);
     compare_calls();
-    print_head();
+    if (is_measured)
+        begin_measuring();
     bench_points();
     for (int i = 0; i < SETTINGS; i++) {
         bench_vectors(&settings[i]);
         bench_takes(&settings[i]);
         bench_reads(&settings[i]);
     }
-    bench_programs(arguments + 1);
-    print_slow_lines();
+    if (is_measured) {
+        bench_programs(arguments + 1);
+        print_slow_lines();
+    } else {
+        print_compared();
+    }
     return 0;
 }

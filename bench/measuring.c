@@ -2,14 +2,24 @@
 
 #include "bench.h"
 
+#include <time.h>
+
 #define ROUND_NANOSECONDS 1e6
 enum { ROUNDS = 60 };
+
+static int is_measuring;
+
+void begin_measuring(void)
+{
+    is_measuring = 1;
+    print_head();
+}
 
 double nanoseconds_now(void)
 {
     struct timespec now;
     clock_gettime(CLOCK_MONOTONIC, &now);
-    return (double)now.seconds * 1e9 + (double)now.nanoseconds;
+    return (double)now.tv_sec * 1e9 + (double)now.tv_nsec;
 }
 
 /* Without what it takes to run an empty call. */
@@ -45,6 +55,8 @@ static double smaller(double one, double other)
 /* The least of all rounds, ours and plain C by turns. The time has the call itself in it. */
 void measure(struct rivals rivals)
 {
+    if (!is_measuring)
+        return;
     struct figures ours = {instructions_of(rivals.ours), 1e9}, plain = {instructions_of(rivals.plain), 1e9};
     const uint64_t times = times_of_round(rivals.plain);
     for (int round = 0; round < ROUNDS; round++) {

@@ -2,6 +2,8 @@
 
 #include "bench.h"
 
+#include <stdio.h>
+
 typedef uint64_t index_call(uint64_t length, uint64_t radius, const int32_t *point, uint64_t point_length);
 typedef uint32_t point_call(uint64_t length, uint64_t radius, uint64_t index, int32_t *out, uint64_t out_length);
 

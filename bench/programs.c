@@ -1,6 +1,10 @@
-/* The listing of a page by whole programs: ours, plain C, one that only reads and writes the same bytes, and one that does nothing. */
+/* The listing of a page by whole programs: ours, plain C, one that only reads and writes the same bytes, and one
+   that does nothing. */
 
 #include "bench.h"
+
+#include <stdio.h>
+#include <stdlib.h>
 
 enum { OURS, PLAIN, COPY, NOTHING, PROGRAMS };
 enum { RUNS = 200, MOST_WORDS = 16 };
@@ -60,7 +64,8 @@ static void print_row_beyond(const char *what, const double *figures)
     print_row(what, beyond);
 }
 
-/* The arguments: the folder of the page, a file for what is written, the four programs, and the words that start a program. */
+/* The arguments: the folder of the page, a file for what is written, the four programs, and the words that
+   start a program. */
 void bench_programs(char **arguments)
 {
     const char *folder = arguments[0], *output = arguments[1];

@@ -1,7 +1,9 @@
-/* Reading: places by chance. Of 16 places one is missing, one contested and one unreadable, two are mended where a shell of the row
-   has a codeword past N, and the others are sound. */
+/* Reading: places by chance. Of 16 places one is missing, one contested and one unreadable, two are mended where a
+   shell of the row has a codeword past N, and the others are sound. */
 
 #include "bench.h"
+
+#include <stdio.h>
 
 typedef struct plain_reading read_call(const uint8_t *table, uint64_t table_length, const uint8_t *page, uint64_t page_length,
                                        uint64_t place, int32_t *out, uint64_t out_length);

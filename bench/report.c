@@ -2,6 +2,11 @@
 
 #include "bench.h"
 
+#include <stdio.h>
+#include <stdlib.h>
+#include <string.h>
+#include <unistd.h>
+
 #define SLOW 1.25
 enum { MOST_SLOW = 100 };
 
@@ -16,7 +21,7 @@ static int slow;
 
 void fail(const char *what, const char *why)
 {
-    dprintf(STANDARD_ERROR, "%s: %s\n", what, why);
+    dprintf(STDERR_FILENO, "%s: %s\n", what, why);
     exit(1);
 }
 

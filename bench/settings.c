@@ -1,4 +1,5 @@
-/* The two pairing tables that the calls are measured with: one of a row, and one of 32 rows of all lengths with 4,096 places. */
+/* The two pairing tables that the calls are measured with: one of a row, and one of 32 rows of all lengths
+   with 4,096 places. */
 
 #include "bench.h"
 

@@ -1,8 +1,11 @@
-/* Taking: records for a page that has heard of every place. Of 16 records 14 are for places by chance, of which every fourth is
-   contested and the others hold this very record; one is for no place of the table, and one is a byte short. So each take leaves the
-   page as it is, however often it is run. That a place is held or contested comes about before, and is compared. */
+/* Taking: records for a page that has heard of every place. Of 16 records 14 are for places by chance, of which every
+   fourth is contested and the others hold this very record; one is for no place of the table, and one is a byte short.
+   So each take leaves the page as it is, however often it is run. That a place is held or contested comes about before,
+   and is compared. */
 
 #include "bench.h"
+
+#include <stdio.h>
 
 typedef uint32_t take_call(const uint8_t *table, uint64_t table_length, uint8_t *page, uint64_t page_length, const uint8_t *record,
                            uint64_t record_length);

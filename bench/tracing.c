@@ -1,17 +1,15 @@
-/* How many instructions something takes: it is run by another process, which is stopped after each of them. An instruction that
-   repeats itself counts as often as it does so. */
+/* How many instructions something takes: it is run by another process, which is stopped after each of them. An
+   instruction that repeats itself counts as often as it does so. */
 
 #include "bench.h"
 
-static int is_stopped(int status)
-{
-    return (status & 0xff) == 0x7f;
-}
-
-static int stopping_signal(int status)
-{
-    return status >> 8 & 0xff;
-}
+#include <fcntl.h>
+#include <sched.h>
+#include <signal.h>
+#include <stddef.h>
+#include <sys/ptrace.h>
+#include <sys/wait.h>
+#include <unistd.h>
 
 /* From where the process has stopped by itself to its end. It ends without stopping where it cannot be traced. */
 static double steps_to_end(int process)
@@ -19,14 +17,14 @@ static double steps_to_end(int process)
     double steps = 0;
     int status;
     waitpid(process, &status, 0);
-    if (!is_stopped(status))
+    if (!WIFSTOPPED(status))
         return UNCOUNTED;
     for (;;) {
         ptrace(PTRACE_SINGLESTEP, process, NULL, NULL);
         waitpid(process, &status, 0);
-        if (!is_stopped(status))
+        if (!WIFSTOPPED(status))
             break;
-        if (stopping_signal(status) != SIGTRAP)
+        if (WSTOPSIG(status) != SIGTRAP)
             fail("a process that is traced", "another signal");
         steps++;
     }
@@ -35,29 +33,32 @@ static double steps_to_end(int process)
     return steps;
 }
 
-/* Keeps this process, and what it starts, to one processor, where stopping and going on take less time; those of before are returned. */
-static struct processors keep_to_one(void)
+/* Keeps this process, and what it starts, to one processor, where stopping and going on take less time; those of
+   before are returned. */
+static cpu_set_t keep_to_one(void)
 {
-    struct processors before = {{0}}, one = {{0}};
-    const uint64_t number = (uint64_t)sched_getcpu();
+    cpu_set_t before, one;
+    const int number = sched_getcpu();
+    CPU_ZERO(&before);
+    CPU_ZERO(&one);
     sched_getaffinity(0, sizeof before, &before);
-    if (number < 64 * ENTRIES(one.bits)) {
-        one.bits[number / 64] = (uint64_t)1 << number % 64;
+    if (0 <= number && number < CPU_SETSIZE) {
+        CPU_SET(number, &one);
         sched_setaffinity(0, sizeof one, &one);
     }
     return before;
 }
 
-static void go_back_to(struct processors processors)
+static void go_back_to(cpu_set_t processors)
 {
     sched_setaffinity(0, sizeof processors, &processors);
 }
 
-/* The call is run twice, and the second time is counted, so that whatever is done once is done. What the process does besides is the
-   same for every call. */
+/* The call is run twice, and the second time is counted, so that whatever is done once is done. What the process does
+   besides is the same for every call. */
 double steps_of_run(run_call *run, any_call *call, uint64_t inputs)
 {
-    const struct processors before = keep_to_one();
+    const cpu_set_t before = keep_to_one();
     const int process = fork();
     if (process == 0) {
         run(call, inputs);
@@ -77,8 +78,8 @@ int start(char *const *words, const char *folder, const char *output, int is_tra
 {
     const int process = fork();
     if (process == 0) {
-        const int file = open(output, TO_WRITE, 0644);
-        if (file < 0 || dup2(file, STANDARD_OUTPUT) < 0 || chdir(folder) < 0)
+        const int file = open(output, O_WRONLY | O_CREAT | O_TRUNC, 0644);
+        if (file < 0 || dup2(file, STDOUT_FILENO) < 0 || chdir(folder) < 0)
             _exit(1);
         if (is_traced && ptrace(PTRACE_TRACEME, 0, NULL, NULL) != 0)
             _exit(0);
@@ -97,7 +98,7 @@ void wait_for(int process)
 
 double steps_of_program(char *const *words, const char *folder, const char *output)
 {
-    const struct processors before = keep_to_one();
+    const cpu_set_t before = keep_to_one();
     const double steps = steps_to_end(start(words, folder, output, 1));
     go_back_to(before);
     return steps;

@@ -2,6 +2,8 @@
 
 #include "bench.h"
 
+#include <stdio.h>
+
 typedef uint32_t quantize_call(const uint8_t *table, uint64_t table_length, uint64_t place, const float *coefficients,
                                uint64_t coefficients_length, uint8_t *record, uint64_t record_length);
 

@@ -1,11 +1,12 @@
-# Functions that build and run programs, to be sourced by a bash script. They use the compiler, the linker, the loader and the C library of
-# the kit, found from `rt doc`: nothing is installed, and no path is fixed. Programs are for x86-64; on another machine the kit has
-# an emulator, and they run behind it.
+# Functions that build and run programs, to be sourced by a bash script. They use the compiler, the linker, the loader
+# and the C library of the kit, found from `rt doc`: nothing is installed, and no path is fixed. Programs are for
+# x86-64; on another machine the kit has an emulator, and they run behind it.
 #
-#   kit_compile FOLDER FILE.c ..     compiles each FILE.c to FOLDER/FILE.o; a warning is an error
-#   kit_link PROGRAM FILE ..         links objects and archives, in that order, with the C library
-#   kit_run PROGRAM WORD ..          runs a program; the status is the program's own
-#   kit_level                        the optimisation that kit_compile asks for, -O2 unless the script sets it
+#   kit_compile FOLDER FILE.c ..        compiles each FILE.c to FOLDER/FILE.o; a warning is an error
+#   kit_compile_folders FOLDER FROM ..  compiles each folder FROM: the files of tests/second/rules to FOLDER/rules
+#   kit_link PROGRAM FILE ..            links objects and archives, in that order, with the C library
+#   kit_run PROGRAM WORD ..             runs a program; the status is the program's own
+#   kit_level                           the optimisation that kit_compile asks for, -O2 unless the script sets it
 # shellcheck shell=bash
 
 # The kit's part for this machine: two levels above the guide, then on/MACHINE.
@@ -15,8 +16,8 @@ kit_folder() {
     printf '%s/on/%s\n' "$(dirname "$(dirname "$guide")")" "$(uname -m)"
 }
 
-# The kit has no headers of a C library: tools/headers has what the programs use of three of them, the other functions they declare themselves, and
-# -nostdinc keeps the machine's headers out. The folder include/ of the repository is searched too, so the script runs at its top.
+# The kit has no headers of a C library: tools/headers has what the programs use of them, and -nostdinc keeps the
+# machine's headers out. The folder include/ of the repository is searched too, so the script runs at its top.
 kit_compile() {
     local kit folder=$1 file
     kit=$(kit_folder) || return
@@ -28,6 +29,14 @@ kit_compile() {
             -Wall -Wextra -Wpedantic -Wconversion -Wsign-conversion -Wshadow -Wundef -Wvla \
             -Wstrict-prototypes -Wmissing-prototypes -Wmissing-variable-declarations -Werror \
             -c "$file" -o "$folder/$(basename "$file" .c).o" || return
+    done
+}
+
+kit_compile_folders() {
+    local folder=$1 from
+    shift
+    for from in "$@"; do
+        kit_compile "$folder/$(basename "$from")" "$from"/*.c || return
     done
 }
 

@@ -1,5 +1,5 @@
-/* The sender of the demo and a slate: the pairing table has a row for each band, and a place for each piece of a band. All coding is done
-   by our own calls. */
+/* The sender of the demo and a slate: the pairing table has a row for each band, and a place for each piece of a
+   band. All coding is done by our own calls. */
 
 #include "demo.h"
 

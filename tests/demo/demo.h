@@ -5,6 +5,10 @@
 #define DEMO_DEMO_H
 
 #include "../listing/listing.h"
+#include "../second/probe.h"
+
+#include <stdio.h>
+#include <stdlib.h>
 
 /* What the drawing uses of the C library beside what listing.h declares. */
 __attribute__((format(printf, 2, 3))) int fprintf(struct file *to, const char *format, ...);

@@ -1,5 +1,5 @@
-/* What became of each place of the demo, by the rules of the second program: it must be what the radio's list says, and there must be
-   every fate, so that the demo cannot lose one. */
+/* What became of each place of the demo, by the rules of the second program: it must be what the radio's list says,
+   and there must be every fate, so that the demo cannot lose one. */
 
 #include "demo.h"
 

@@ -1,5 +1,5 @@
-/* The picture of the demo, a part of a page of a graded reader: two characters with their readings above them. A plain band split stands
-   here for the editor's own: sums and differences of 2 x 2 pixels, all of them exact in f32. */
+/* The picture of the demo, a part of a page of a graded reader: two characters with their readings above them. A
+   plain band split stands here for the editor's own: sums and differences of 2 x 2 pixels, all of them exact in f32. */
 
 #include "demo.h"
 
@@ -22,7 +22,8 @@ const struct picture picture_sent = {{
     "###########.#..........#",
 }};
 
-/* Band 0 is the sum of the 2 x 2 pixels. Band 1 takes off the right ones, band 2 the lower ones, band 3 those that are one of both. */
+/* Band 0 is the sum of the 2 x 2 pixels. Band 1 takes off the right ones, band 2 the lower ones, band 3 those that
+   are one of both. */
 static float sign(uint64_t band, uint64_t column, uint64_t line)
 {
     return (band % 2 * column + band / 2 * line) % 2 == 0 ? 1 : -1;

@@ -1,5 +1,5 @@
-/* The radio of the demo: what befalls the records of the page, written out place by place. How often a record comes, and in what order they
-   all come, is left to chance, the same in every run. */
+/* The radio of the demo: what befalls the records of the page, written out place by place. How often a record comes,
+   and in what order they all come, is left to chance, the same in every run. */
 
 #include "demo.h"
 
@@ -16,8 +16,8 @@ struct event {
     enum fate fate;
 };
 
-/* To the places that are not here nothing happens. The record of place 4 comes as one of place 5, and that of place 45 as one of place 109,
-   which the table does not have. */
+/* To the places that are not here nothing happens. The record of place 4 comes as one of place 5, and that of place
+   45 as one of place 109, which the table does not have. */
 static const struct event events[] = {
     {4, CHANGED, AT_PLACE + 1, 1, NOTHING_CAME},
     {5, UNCHANGED, 0, 0, TWO_CAME},

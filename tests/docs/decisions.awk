@@ -1,5 +1,5 @@
-# Prints what is wrong in docs/DECISIONS.md: the points are numbered from 1 on, each once; each has a state; and each point that
-# another one names is there.
+# Prints what is wrong in docs/DECISIONS.md: the points are numbered from 1 on, each once; each has a state; and each
+# point that another one names is there.
 function wrong(what) {
     print "docs/DECISIONS.md: " what
     differs = 1

@@ -1,5 +1,6 @@
-# Reads crates.txt, then docs/DEVELOPING.md, and prints where the house that the page draws is not that of crates.txt. A crate
-# that stands on none of the repository's is on floor 0; another one is a floor above the highest that it stands on.
+# Reads crates.txt, then docs/DEVELOPING.md, and prints where the house that the page draws is not that of crates.txt.
+# A crate that stands on none of the repository's is on floor 0; another one is a floor above the highest that it
+# stands on.
 function floor(crate,    used, uses, i, most) {
     if (crate in known)
         return known[crate]

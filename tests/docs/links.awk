@@ -1,6 +1,6 @@
-# Prints what the pages lead to, one a line: "link PAGE TARGET" for a link, "path PAGE PATH" for a path in backticks. What
-# has a word in capitals in the place of a name, or a star, is a pattern and no path. Commands and what they print stand
-# in lines that begin with four spaces, and are left out.
+# Prints what the pages lead to, one a line: "link PAGE TARGET" for a link, "path PAGE PATH" for a path in backticks.
+# What has a word in capitals in the place of a name, or a star, is a pattern and no path. Commands and what they
+# print stand in lines that begin with four spaces, and are left out.
 /^    / { next }
 {
     line = $0

@@ -1,5 +1,6 @@
-# The first file is the rules. Each line of the others is a text behind a name and a tab: what the text has in quotation
-# marks must stand in the rules, whatever the spaces and the marks for bold and code. A first letter may be large or small.
+# The first file is the rules. Each line of the others is a text behind a name and a tab: what the text has in
+# quotation marks must stand in the rules, whatever the spaces and the marks for bold and code. A first letter may be
+# large or small.
 function plain(text) {
     gsub(/[*`]/, "", text)
     gsub(/[ \t\n]+/, " ", text)

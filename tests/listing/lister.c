@@ -1,16 +1,18 @@
-/* An independent listing program: reads `pairing.bin` and `records.bin` of the directory that it is started in, of any size, and prints
-   the listing of document 01. */
+/* An independent listing program: reads `pairing.bin` and `records.bin` of the directory that it is started in, of any
+   size, and prints the listing of docs/RULES.md, "Listing program". */
 
 #include "listing.h"
 
+#include <stdio.h>
+
 enum { RUN = RECORD_SIZE * 1000 }; /* the bytes that are read at a time */
 
-/* "a missing file is empty". Of a table that is too long only the size counts. */
+/* "A file that is not there counts as empty". Of a table that is too long only the size counts. */
 static struct table read_table(void)
 {
     static uint8_t beyond[RUN];
     struct table table = {.size = 0};
-    struct file *file = fopen("pairing.bin", "rb");
+    FILE *file = fopen("pairing.bin", "rb");
     if (!file)
         return table;
     table.size = fread(table.bytes, 1, sizeof table.bytes, file);
@@ -20,11 +22,12 @@ static struct table read_table(void)
     return table;
 }
 
-/* fread gives less than it is asked for at the end alone, so only the last run can have a part of fewer than 8 bytes. */
+/* fread gives less than it is asked for at the end alone, so only the last run can have a part of
+   fewer than 8 bytes. */
 static void gather_records(struct gathering *to)
 {
     static uint8_t run[RUN];
-    struct file *file = fopen("records.bin", "rb");
+    FILE *file = fopen("records.bin", "rb");
     if (!file)
         return;
     for (size_t size = RUN; size == RUN;) {

@@ -1,20 +1,14 @@
-/* Hands a file over through a named pipe in pieces, `pieces FROM PIPE SIZE ..`: the sizes in turn, again and again. A piece is written
-   only when the one before is taken, so that no read gets more than one. It ends without a word when the pipe is removed, or when its
-   reader has ended. */
+/* Hands a file over through a named pipe in pieces, `pieces FROM PIPE SIZE ..`: the sizes in turn, again and again. A
+   piece is written only when the one before is taken, so that no read gets more than one. It ends without a word when
+   the pipe is removed, or when its reader has ended. */
 
-#include "../second/libc.h"
+#include <fcntl.h>
+#include <stdint.h>
+#include <stdio.h>
+#include <stdlib.h>
+#include <sys/ioctl.h>
+#include <unistd.h>
 
-int open(const char *path, int flags, ...);
-int access(const char *path, int mode);
-long read(int file, void *to, size_t size);
-long write(int file, const void *from, size_t size);
-int ioctl(int file, unsigned long request, ...);
-int usleep(uint32_t microseconds);
-uint32_t alarm(uint32_t seconds);
-int atoi(const char *text);
-
-/* The numbers that Linux has for these on x86-64. */
-enum { READ_ONLY = 0, WRITE_ONLY = 1, WITHOUT_WAITING = 2048, IS_THERE = 0, BYTES_WITHIN = 0x541b };
 enum { MOST_BYTES = 1 << 20, MOST_SECONDS = 300, MICROSECONDS = 50 };
 
 static uint8_t bytes[MOST_BYTES];
@@ -22,9 +16,9 @@ static uint8_t bytes[MOST_BYTES];
 /* As much of the file as there is room for. */
 static size_t read_file(const char *path)
 {
-    const int file = open(path, READ_ONLY);
+    const int file = open(path, O_RDONLY);
     size_t size = 0;
-    for (long more = 0; (more = read(file, bytes + size, sizeof bytes - size)) > 0;)
+    for (ssize_t more = 0; (more = read(file, bytes + size, sizeof bytes - size)) > 0;)
         size += (size_t)more;
     return size;
 }
@@ -33,7 +27,7 @@ static size_t read_file(const char *path)
 static void wait_a_while(const char *path)
 {
     usleep(MICROSECONDS);
-    if (access(path, IS_THERE) != 0)
+    if (access(path, F_OK) != 0)
         exit(0);
 }
 
@@ -41,7 +35,7 @@ static void wait_a_while(const char *path)
 static int open_pipe(const char *path)
 {
     int pipe = -1;
-    while ((pipe = open(path, WRITE_ONLY | WITHOUT_WAITING)) < 0)
+    while ((pipe = open(path, O_WRONLY | O_NONBLOCK)) < 0)
         wait_a_while(path);
     return pipe;
 }
@@ -49,10 +43,10 @@ static int open_pipe(const char *path)
 /* Once nothing is left in the pipe. A write that finds no room fails. */
 static void hand_over(const char *path, int pipe, const uint8_t *piece, size_t size)
 {
-    for (int within = 0; ioctl(pipe, BYTES_WITHIN, &within) == 0 && within > 0;)
+    for (int within = 0; ioctl(pipe, FIONREAD, &within) == 0 && within > 0;)
         wait_a_while(path);
     while (size > 0) {
-        const long written = write(pipe, piece, size);
+        const ssize_t written = write(pipe, piece, size);
         if (written < 0)
             wait_a_while(path);
         piece += written < 0 ? 0 : written;

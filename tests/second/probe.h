@@ -1,10 +1,11 @@
-/* The calls under test, as a sender or a slate would link them. Any archive that has these thirteen can be held to the second
-   program. The refusal numbers and the order of checks are those of document 01, "Refusal numbers". */
+/* The calls under test, as a sender or a slate would link them. Any archive that has these thirteen can be held to
+   the second program. The refusal numbers and the order of checks are those of docs/RULES.md, "Refusal numbers" and
+   "Order of checks". */
 
 #ifndef SECOND_PROBE_H
 #define SECOND_PROBE_H
 
-#include "libc.h"
+#include <stdint.h>
 
 /* An answer of the first two calls that is REFUSED or more is REFUSED plus the refusal number. */
 #define REFUSED ((uint64_t)1 << 40)
@@ -32,8 +33,9 @@ uint32_t probe_quantize(const uint8_t *table, uint64_t table_length, uint64_t pl
 uint64_t probe_quantize_value(const uint8_t *table, uint64_t table_length, uint64_t place, const float *coefficients,
                               uint64_t coefficients_length, uint8_t *record, uint64_t record_length);
 
-/* Of the calls below, those with `which` answer a list and give its item of that number; an item past the end of the list is 0. A
-   refusal is the list of its number and what document 01 names with it: the row of 7, and in the tally the place of 12. */
+/* Of the calls below, those with `which` answer a list and give its item of that number; an item past the end of
+   the list is 0. A refusal is the list of its number and what the rules name with it: the row of 7, and in the
+   tally the place of 12. */
 
 /* The list 0, and the record is taken into the page; or refused 7, 4, 8, 12, and the page is as it was. */
 uint64_t probe_take(const uint8_t *table, uint64_t table_length, uint8_t *page, uint64_t page_length, const uint8_t *record,
@@ -43,8 +45,9 @@ uint64_t probe_take(const uint8_t *table, uint64_t table_length, uint8_t *page, 
 uint64_t probe_collect(const uint8_t *table, uint64_t table_length, uint8_t *page, uint64_t page_length, const uint8_t *bytes,
                        uint64_t bytes_length);
 
-/* The list 0, answer, reason: the answers are sound, mended, missing, contested and unreadable, from 0 on; the reason is 9, 10 or 14
-   where the place is unreadable, else 0. `out` has the point, or zeros. Or refused 7, 8, 4, 12, and `out` is as it was. */
+/* The list 0, answer, reason: the answers are sound, mended, missing, contested and unreadable, from 0 on; the reason
+   is 9, 10 or 14 where the place is unreadable, else 0. `out` has the point, or zeros. Or refused 7, 8, 4, 12, and
+   `out` is as it was. */
 uint64_t probe_read(const uint8_t *table, uint64_t table_length, const uint8_t *page, uint64_t page_length, uint64_t place,
                     int32_t *out, uint64_t out_length, uint64_t which);
 

@@ -1,8 +1,10 @@
-/* What document 01 says of single counts and takes, as it stands there: none of the rules of tests/second comes
-   between. "Points and counts", "Listing program" and "Proofs of single values". The version is that of docs/RULES.md,
-   "Calls for C". */
+/* What docs/RULES.md says of single counts and takes, as it stands there: none of the rules of tests/second comes
+   between. See "Points and counts", "The page", "Worked cases" and "Calls for C". */
 
 #include "slate.h"
+
+#include <stdio.h>
+#include <stdlib.h>
 
 static const struct {
     uint64_t length;
@@ -12,13 +14,14 @@ static const struct {
     {2, 3, 12}, {3, 2, 18}, {4, 0, 1}, {16, 12, 3575055360}, {16, 13, 0}, {0, 0, 0}, {17, 0, 0}, {1, 33, 0},
 };
 
-/* `pairing.bin`, the two records of `records.bin`, the first one with a bit changed, and one of a place that is not there. */
+/* `pairing.bin`, the two records of `records.bin`, the first one with a bit changed, and one of a place
+   that is not there. */
 static const uint8_t pairing[] = {3, 2, 0, 2, 0, 0, 0, 0, 0, 0, 1, 0, 0, 2, 0, 0};
 static const uint8_t first[] = {0, 0, 0, 1, 0, 0, 0, 0x05}, second[] = {0, 1, 0, 1, 0, 0, 0, 0x12};
 static const uint8_t changed[] = {0, 0, 0, 1, 0, 0, 0, 0x07}, past[] = {0, 2, 0, 1, 0, 0, 0, 0x05};
 
-/* One take after the other into a page that is empty at first, but for a state that is set before: what is lent, and then the answer
-   and the page. */
+/* One take after the other into a page that is empty at first, but for a state that is set before: what is lent, and
+   then the answer and the page. */
 static const struct {
     uint8_t state;
     uint64_t table_length;
@@ -43,7 +46,7 @@ static const struct {
 static void compare_case(const char *call, uint64_t number, uint64_t expected, uint64_t got)
 {
     if (got != expected) {
-        printf("%s, case %lu of document 01: expected %lu, got %lu\n", call, number, expected, got);
+        printf("%s, case %lu of the rules: expected %lu, got %lu\n", call, number, expected, got);
         exit(1);
     }
 }

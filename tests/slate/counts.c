@@ -1,12 +1,15 @@
-/* aldrynja_count, held to the N of shells.c: small lengths and radii, good and bad, and numbers that are small only where they are
-   cut. Document 01, "Points and counts". */
+/* aldrynja_count, held to the N of tests/second/rules/shells.c: small lengths and radii, good and bad, and numbers that
+   are small only where they are cut. See docs/RULES.md, "Points and counts". */
 
 #include "slate.h"
 
+#include <stdio.h>
+#include <stdlib.h>
+
 enum { SOME_LENGTHS = 41, SOME_RADII = 71 };
 
-/* What is added to a small length or radius: nothing, what is lost where a number is cut, and what makes it negative where it is
-   signed. With the last two the sum passes 2^64 at times, and is small again. */
+/* What is added to a small length or radius: nothing, what is lost where a number is cut, and what makes it negative
+   where it is signed. With the last two the sum passes 2^64 at times, and is small again. */
 static const uint64_t bases[] = {0,
                                  (uint64_t)1 << 8,
                                  (uint64_t)1 << 16,

@@ -1,12 +1,11 @@
-/* Buffers that end where memory ends: what is read or written behind one of them, as where a size is judged too late, ends the call.
-   Document 01, "Refusal numbers". */
+/* Buffers that end where memory ends: what is read or written behind one of them, as where a size is judged too late,
+   ends the call. See docs/RULES.md, "Refusal numbers". */
 
 #include "slate.h"
 
-/* What this file uses of the C library, with the numbers of x86-64 Linux. */
-void *mmap(void *at, size_t size, int access, int manner, int file, int64_t offset);
-int mprotect(void *at, size_t size, int access);
-enum { NO_ACCESS = 0, READ_AND_WRITE = 3, PRIVATE_AND_OF_NO_FILE = 0x22, NO_FILE = -1 };
+#include <stdio.h>
+#include <string.h>
+#include <sys/mman.h>
 
 enum { ROOM = 65536, EDGE_TABLES = 150, MOST_SIZE = 600, FEW_PLACES = 3 };
 
@@ -16,8 +15,8 @@ static uint8_t *table_end, *page_end, *record_end;
 /* The end of a room, behind which nothing can be read or written. */
 static uint8_t *end_of_room(void)
 {
-    uint8_t *room = mmap(NULL, 2 * ROOM, READ_AND_WRITE, PRIVATE_AND_OF_NO_FILE, NO_FILE, 0);
-    own_figure("rooms that cannot be had", mprotect(room + ROOM, ROOM, NO_ACCESS) != 0, 0);
+    uint8_t *room = mmap(NULL, 2 * ROOM, PROT_READ | PROT_WRITE, MAP_PRIVATE | MAP_ANONYMOUS, -1, 0);
+    own_figure("rooms that cannot be had", mprotect(room + ROOM, ROOM, PROT_NONE) != 0, 0);
     return room + ROOM;
 }
 

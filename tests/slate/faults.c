@@ -1,7 +1,10 @@
-/* The refusals of aldrynja_take, each alone and together with others, so that the order of checks is compared too; every state; and
-   bad tables of every kind. Document 01, "Refusal numbers" and "Pairing table". */
+/* The refusals of aldrynja_take, each alone and together with others, so that the order of checks is compared
+   too; every state; and bad tables of every kind. See docs/RULES.md, "Refusal numbers", "Order of checks" and
+   "Pairing table". */
 
 #include "slate.h"
+
+#include <stdio.h>
 
 enum { BAD_TABLES = 200 };
 

@@ -1,8 +1,10 @@
-/* Takes by chance into pages of every size that go on growing: from empty ones, and from ones with cells of every state and at fault;
-   records that are held already, that differ in one byte or in several, and that are not in the table; lengths that are wrong, and
-   tables that are bad. Document 01, "The page". */
+/* Takes by chance into pages of every size that go on growing: from empty ones, and from ones with cells of every state
+   and at fault; records that are held already, that differ in one byte or in several, and that are not in the table;
+   lengths that are wrong, and tables that are bad. See docs/RULES.md, "The page". */
 
 #include "slate.h"
+
+#include <stdio.h>
 
 enum { TAKES_OF_CLASS = 600000, TAKES_OF_TABLE = 400, RECENT = 8 };
 

@@ -1,8 +1,11 @@
-/* How much was compared of each kind, beside the kinds of takes that tests/second tells. A kind is told from what was lent and what
-   the rules made of it, not from how it was drawn. The test ends with an error of its own if there is too little of one, so that it
-   cannot become empty. Document 01, "The page" and "Refusal numbers". */
+/* How much was compared of each kind, beside the kinds of takes that tests/second tells. A kind is told from what was
+   lent and what the rules made of it, not from how it was drawn. The test ends with an error of its own if there is too
+   little of one, so that it cannot become empty. See docs/RULES.md, "The page" and "Refusal numbers". */
 
 #include "slate.h"
+
+#include <stdio.h>
+#include <string.h>
 
 enum { LEAST = 200, LEAST_OF_CLASS = 10000, LEAST_TAKES = 1000000 };
 
@@ -86,7 +89,8 @@ void note_answer(uint32_t refusal)
     takes++;
 }
 
-/* Refusal 7 with a record that is right and a page that is as large as the rows would have it: nothing but the table is wrong. */
+/* Refusal 7 with a record that is right and a page that is as large as the rows would have it: nothing but the
+   table is wrong. */
 static void note_fitting(const struct lending *lending)
 {
     const struct table *table = lending->table;

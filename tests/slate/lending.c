@@ -1,12 +1,10 @@
-/* One comparison of aldrynja_take with the rules of page.c. What the call is lent lies among guards, and every byte of it is compared
-   afterwards: only the page may change, and only as those rules say. */
+/* One comparison of aldrynja_take with the rules in tests/second/rules/page.c. What the call is lent lies among guards,
+   and every byte of it is compared afterwards: only the page may change, and only as those rules say. */
 
 #include "slate.h"
 
-/* What this file uses of the C library, and the signals with which Linux ends a program that reads or writes where it may not. */
-typedef void handler(int number);
-handler *signal(int number, handler *with);
-enum { BUS = 7, SEGMENT = 11 };
+#include <signal.h>
+#include <stdio.h>
 
 static const struct taking *volatile under_way;
 
@@ -19,11 +17,12 @@ static void on_fault(int number)
     end("something is read or written that is not lent");
 }
 
-/* From here on a call that reads or writes where it may not is told like any other difference. */
+/* From here on a call that reads or writes where it may not is told like any other difference. Linux would end the
+   program with one of these two signals. */
 void tell_faults(void)
 {
-    signal(BUS, on_fault);
-    signal(SEGMENT, on_fault);
+    signal(SIGBUS, on_fault);
+    signal(SIGSEGV, on_fault);
 }
 
 /* The call, and what it gives. */

@@ -1,4 +1,4 @@
-/* The layout program in small: compares the three calls of aldrynja.h with document 01 by the rules of tests/second,
+/* The layout program in small: compares the three calls of aldrynja.h with docs/RULES.md by the rules of tests/second,
    and says what it compared. The first difference ends it with status 1. */
 
 #include "slate.h"

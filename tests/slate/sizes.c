@@ -1,7 +1,9 @@
-/* The sizes of what aldrynja_take is lent: every size of a table, buffers of no bytes by each pointer, numbers at the ends of 64
-   bits, and numbers that are right only where they are cut. Document 01, "Refusal numbers". */
+/* The sizes of what aldrynja_take is lent: every size of a table, buffers of no bytes by each pointer, numbers at the
+   ends of 64 bits, and numbers that are right only where they are cut. See docs/RULES.md, "Refusal numbers". */
 
 #include "slate.h"
+
+#include <stdio.h>
 
 enum { MOST_SIZE = 600, FEW_PLACES = 3, EMPTY_TABLES = 250, END_TABLES = 100 };
 

@@ -1,17 +1,19 @@
 /* The parts of the layout program in small. It links the three calls of aldrynja.h and holds them to the rules of
-   tests/second, which are written from document 01 alone and share nothing with the calls. */
+   tests/second, which are written from docs/RULES.md alone and share nothing with the calls. */
 
 #ifndef SLATE_SLATE_H
 #define SLATE_SLATE_H
 
-#include "../second/page_kinds.h"
+#include "../second/draws/page_draws.h"
+#include "../second/kinds/lent.h"
+#include "../second/kinds/page_kinds.h"
 #include "aldrynja.h"
 
 /* How a buffer is lent: in its room; or, if it has no bytes, by a null pointer or by one to nothing. */
 enum pointer { TO_ROOM, TO_NULL, TO_NOTHING };
 
-/* What aldrynja_take is lent. A size that is not right may be any number, larger than the room too: it decides the answer alone, and
-   the call may look at nothing. */
+/* What aldrynja_take is lent. A size that is not right may be any number, larger than the room too: it decides the
+   answer alone, and the call may look at nothing. */
 struct lending {
     const struct table *table;
     struct page *page;
@@ -21,7 +23,7 @@ struct lending {
     enum pointer to_record;
 };
 
-/* lending.c: one comparison of aldrynja_take with the rules of page.c, whose refusal is returned */
+/* lending.c: one comparison of aldrynja_take with the rules in tests/second/rules/page.c, whose refusal is returned */
 void tell_faults(void);
 void call_take(const struct taking *taking, const uint8_t *table, uint8_t *page, const uint8_t *record);
 uint64_t compare_lending(const struct lending *lending);

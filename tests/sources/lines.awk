@@ -1,6 +1,6 @@
-# Prints the lines that no source may have, with the reason. Lengths are in characters: the bytes that go on a character are
-# not counted, so this wants LC_ALL=C. In C a comment is what begins with /* and all up to */. In a page, prose is what is
-# neither a row of a table nor indented by four spaces.
+# Prints the lines that no source may have, with the reason. Lengths are in characters: the bytes that go on a
+# character are not counted, so this wants LC_ALL=C. In C a comment is what begins with /* and all up to */. In a
+# page, prose is what is neither a row of a table nor indented by four spaces.
 function tell(what) {
     print FILENAME ":" FNR ": " what
     faults = 1

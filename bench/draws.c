@@ -1,0 +1,59 @@
+/* Calls with what the second program draws: bad tables of every kind, vectors near every tie or anywhere, some of them
+   unusable, and cells of every kind, with what arrives there. */
+
+#include "../tests/second/draws/page_draws.h"
+#include "bench.h"
+
+enum { TABLES_OF_FAULT = 50, TABLES = 1000, VECTORS_OF_TABLE = 20, RECORDS_OF_TABLE = 50 };
+
+/* Every call that is lent a bad table is refused, whatever else is lent. */
+static void try_bad_table(enum fault fault)
+{
+    static uint8_t pages[2][CELL_SIZE];
+    const struct table table = bad_table_by_chance(fault);
+    const struct coefficients in = {.length = table.bytes[AT_LENGTH] % (MOST_LENGTH + 1)};
+    const struct record record = {.length = RECORD_SIZE};
+    if (agree_on_quantize(&table, &in, RECORD_SIZE) != 7 || agree_on_read(&table, pages[0], CELL_SIZE, 0, in.length) != 7 ||
+        agree_on_take(&table, pages[0], pages[1], CELL_SIZE, &record) != 7)
+        fail("a bad table", "not refused");
+}
+
+static void try_vectors(void)
+{
+    struct vector vector = {.table = good_table_by_chance()};
+    for (int i = 0; i < VECTORS_OF_TABLE; i++) {
+        place_by_chance(&vector);
+        coefficients_by_chance(&vector);
+        struct coefficients in = {.place = vector.place, .length = vector.length};
+        __builtin_memcpy(in.values, vector.coefficients, vector.length * sizeof *in.values);
+        agree_on_quantize(&vector.table, &in, RECORD_SIZE);
+    }
+}
+
+/* What arrives at a place, and what is then read there. */
+static void try_page(void)
+{
+    static struct page page;
+    const struct table table = page_table_by_chance();
+    page_by_chance(&page, &table, 0);
+    for (int i = 0; i < RECORDS_OF_TABLE; i++) {
+        const uint64_t place = some_place(&table);
+        draw_cell(&page, &table, place, 6);
+        const struct arrival arrival = arrival_by_chance(&table, &page, place);
+        struct record record = {.length = arrival.length};
+        __builtin_memcpy(record.bytes, arrival.bytes, RECORD_SIZE);
+        agree_on_read(&table, page.lent[0] + GUARDS, page.size, place, row_at(&table, place)[AT_LENGTH]);
+        agree_on_take(&table, page.lent[0] + GUARDS, page.lent[1] + GUARDS, page.size, &record);
+        agree_on_read(&table, page.lent[1] + GUARDS, page.size, place, row_at(&table, place)[AT_LENGTH]);
+    }
+}
+
+void compare_draws(void)
+{
+    for (int i = 0; i < FAULTS * TABLES_OF_FAULT; i++)
+        try_bad_table((enum fault)(i % FAULTS));
+    for (int i = 0; i < TABLES; i++) {
+        try_vectors();
+        try_page();
+    }
+}

@@ -1,0 +1,68 @@
+/* Plain C of the same calls, for speed: the answers, refusals and order of checks of docs/RULES.md, with counts from
+   tables. It shares nothing with the calls that it is measured against, and nothing but the names of fields and sizes
+   with the second program. */
+
+#ifndef BENCH_PLAIN_H
+#define BENCH_PLAIN_H
+
+#include "../../tests/second/probe.h" /* for REFUSED alone */
+#include "../../tests/second/rules/page.h"
+
+#pragma GCC visibility push(hidden)
+
+/* Filled once, at the start. */
+struct plain_counts {
+    uint64_t points[MOST_LENGTH + 1][MOST_RADIUS + 1];                  /* N, by length and radius */
+    uint64_t powers[MOST_LENGTH + 1][MOST_RADIUS + 1];                  /* 2^b of a usable shell */
+    uint64_t starts[MOST_LENGTH + 1][MOST_RADIUS + 1][MOST_LENGTH + 1]; /* O of a usable shell, by s */
+    uint32_t patterns[MOST_LENGTH + 1][MOST_LENGTH + 1];                /* D, by length and s */
+    uint32_t shapes[MOST_LENGTH + 1][MOST_RADIUS + 1];                  /* S, by s and radius */
+    uint32_t largest[MOST_LENGTH + 1];                                  /* the largest usable radius of a length */
+};
+extern struct plain_counts counts;
+
+/* What a table says, and the row of a place; no places if it is bad. */
+struct survey {
+    uint64_t places;
+    uint64_t row;
+};
+
+/* The refusal or 0; the answer and the reason of an unreadable one. */
+struct plain_reading {
+    uint32_t refusal;
+    uint32_t answer;
+    uint32_t reason;
+};
+
+/* counts.c */
+void plain_begin(void);
+
+/* points.c: of the calls, and in a usable shell with what has passed the checks */
+uint64_t plain_rank(uint64_t length, uint64_t radius, const int32_t *point);
+void plain_unrank(uint64_t length, uint64_t radius, uint64_t index, int32_t *out);
+uint64_t plain_index(uint64_t length, uint64_t radius, const int32_t *point, uint64_t point_length);
+uint32_t plain_point(uint64_t length, uint64_t radius, uint64_t index, int32_t *out, uint64_t out_length);
+
+/* table.c */
+struct survey plain_survey(const uint8_t *table, uint64_t table_length, uint64_t place);
+
+/* quantize.c */
+uint32_t plain_quantize(const uint8_t *table, uint64_t table_length, uint64_t place, const float *coefficients,
+                        uint64_t coefficients_length, uint8_t *record, uint64_t record_length);
+
+/* page.c: of the calls, and with a table that has passed its check */
+uint32_t plain_claim(uint64_t places, uint8_t *page, const uint8_t *record);
+struct plain_reading plain_look(const uint8_t *row, uint64_t row_number, const uint8_t *cell, uint64_t place, int32_t *out);
+uint32_t plain_take(const uint8_t *table, uint64_t table_length, uint8_t *page, uint64_t page_length, const uint8_t *record,
+                    uint64_t record_length);
+struct plain_reading plain_read(const uint8_t *table, uint64_t table_length, const uint8_t *page, uint64_t page_length, uint64_t place,
+                                int32_t *out, uint64_t out_length);
+
+static inline uint32_t pair_at(const uint8_t *high)
+{
+    return (uint32_t)high[0] << 8 | high[1];
+}
+
+#pragma GCC visibility pop
+
+#endif

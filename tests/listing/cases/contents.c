@@ -1,0 +1,222 @@
+/* What a full capture must hold, so that its listing tells wrong programs from right ones. Each thing is counted
+   from what the rules make of the capture, not from how it was made, and the test ends with an error of its own if
+   one is not there. */
+
+#include "../listing.h"
+
+#include <stdio.h>
+#include <string.h>
+
+enum { WIDTHS = 33 /* 0 to 32 */, LEAST_BYTES = 2 * 65536 + 2 };
+
+enum thing {
+    A_9,
+    A_10,
+    A_14,
+    BOTH_9_AND_10,
+    BOTH_9_AND_14,
+    A_10_BELOW_8,
+    A_10_AND_0,
+    HELD_AND_REPEATED,
+    CONTESTED_BY_SOUND,
+    CONTESTED_AND_BACK,
+    NOT_IN_TABLE,
+    PART_OF_MISSING,
+    SOUND_LAST,
+    MENDED_FIRST,
+    MENDED_LAST,
+    FIRST_PAST_WIDTH,
+    WIDTH_0_AND_14,
+    RADIUS_32_SOUND,
+    RADIUS_32_MENDED,
+    TWO_DIGITS,
+    TWO_DIGITS_NEGATIVE,
+    THINGS
+};
+
+static const char *const names[THINGS] = {
+    [A_9] = "places with reason 9",
+    [A_10] = "places with reason 10",
+    [A_14] = "places with reason 14",
+    [BOTH_9_AND_10] = "places with reason 9 whose radius number is not in the row either",
+    [BOTH_9_AND_14] = "places with reason 9 whose codeword is 2^b or more too",
+    [A_10_BELOW_8] = "places with reason 10 and a radius number below 8",
+    [A_10_AND_0] = "places with reason 10, a radius number below 8 and codeword 0",
+    [HELD_AND_REPEATED] = "places that are held and whose record came again",
+    [CONTESTED_BY_SOUND] = "places contested by two records that are sound by themselves",
+    [CONTESTED_AND_BACK] = "contested places whose last record is the first one again",
+    [NOT_IN_TABLE] = "records of places that are not in the table",
+    [PART_OF_MISSING] = "short last parts with the number of a place that is missing",
+    [SOUND_LAST] = "places with codeword N - 1, N above 1",
+    [MENDED_FIRST] = "places with codeword N that are mended",
+    [MENDED_LAST] = "places with codeword 2^b - 1 that are mended",
+    [FIRST_PAST_WIDTH] = "places with codeword 2^b",
+    [WIDTH_0_AND_14] = "places with reason 14 and b = 0",
+    [RADIUS_32_SOUND] = "sound places of radius 32",
+    [RADIUS_32_MENDED] = "mended places of radius 32",
+    [TWO_DIGITS] = "coordinates above 9",
+    [TWO_DIGITS_NEGATIVE] = "coordinates below -9",
+};
+
+static struct {
+    uint64_t things[THINGS];
+    uint64_t answers[READINGS];
+    uint64_t differing[RECORD_SIZE];               /* places contested by records that differ in that byte alone */
+    uint64_t of_length[READINGS][MOST_LENGTH + 1]; /* sound ones and mended ones */
+    uint64_t of_width[READINGS][WIDTHS];
+} counted;
+
+/* What is told of a place beside what is gathered. */
+static struct {
+    uint8_t sound[RECORD_SIZE]; /* the first record that is sound by itself */
+    int has_sound;
+    int has_two_sound; /* and another one that is sound too */
+    int is_last_the_first;
+    uint32_t differing; /* the bit 1 << byte for each byte in which a record differs from the first one */
+} told[MOST_PLACES];
+
+static struct gathering gathering;
+
+static void count_if(int is_there, enum thing thing)
+{
+    counted.things[thing] += is_there != 0;
+}
+
+static void tell_sound(const struct table *table, uint64_t place, const uint8_t *record)
+{
+    uint8_t cell[CELL_SIZE] = {STATE_HELD};
+    for (int i = 0; i < RECORD_SIZE; i++)
+        cell[AT_RECORD + i] = record[i];
+    if (read_cell(table, place, cell).word != SOUND)
+        return;
+    told[place].has_two_sound |= told[place].has_sound && memcmp(told[place].sound, record, RECORD_SIZE) != 0;
+    for (int i = 0; i < RECORD_SIZE && !told[place].has_sound; i++)
+        told[place].sound[i] = record[i];
+    told[place].has_sound = 1;
+}
+
+/* One record of the capture, when all is gathered. */
+static void tell_record(const struct table *table, const uint8_t *record)
+{
+    const uint64_t place = two_bytes(record + AT_PLACE);
+    count_if(place >= gathering.places, NOT_IN_TABLE);
+    if (place >= gathering.places)
+        return;
+    const uint8_t *first = gathering.came[place].first;
+    for (int i = 0; i < RECORD_SIZE; i++)
+        told[place].differing |= (uint32_t)(record[i] != first[i]) << i;
+    told[place].is_last_the_first = memcmp(record, first, RECORD_SIZE) == 0;
+    tell_sound(table, place, record);
+}
+
+static void count_contested(uint64_t place)
+{
+    count_if(told[place].has_two_sound, CONTESTED_BY_SOUND);
+    count_if(told[place].is_last_the_first, CONTESTED_AND_BACK);
+    for (int i = 0; i < RECORD_SIZE; i++)
+        counted.differing[i] += told[place].differing == (uint32_t)1 << i;
+}
+
+static uint64_t width(uint64_t n)
+{
+    uint64_t b = 0;
+    while ((uint64_t)1 << b < n)
+        b++;
+    return b;
+}
+
+/* A place that shows a point. */
+static void count_shown(struct reading reading, uint64_t codeword)
+{
+    const uint64_t n = points_of(reading.shell), b = width(n);
+    const int is_mended = reading.word == MENDED;
+    int32_t point[MOST_LENGTH];
+    point_shown(reading, point);
+    counted.of_length[reading.word][reading.shell.length]++;
+    counted.of_width[reading.word][b]++;
+    count_if(reading.shell.radius == MOST_RADIUS, is_mended ? RADIUS_32_MENDED : RADIUS_32_SOUND);
+    count_if(codeword == n - 1 && n > 1, SOUND_LAST);
+    count_if(codeword == n, MENDED_FIRST);
+    count_if(is_mended && codeword == ((uint64_t)1 << b) - 1, MENDED_LAST);
+    for (uint64_t i = 0; i < reading.shell.length; i++) {
+        count_if(point[i] > 9, TWO_DIGITS);
+        count_if(point[i] < -9, TWO_DIGITS_NEGATIVE);
+    }
+}
+
+/* A place that is unreadable: which reasons there are, whichever comes first. */
+static void count_unreadable(const uint8_t *row, const uint8_t *record, uint64_t reason)
+{
+    const uint64_t number = record[AT_RADIUS_NUMBER], codeword = codeword_of(record);
+    const int is_10 = number >= row[AT_NUMBER_OF_RADII];
+    const uint64_t power = is_10 ? 0 : least_power_from(points_of((struct shell){row[AT_LENGTH], row[AT_RADII + number]}));
+    count_if(reason == 9, A_9);
+    count_if(reason == 10, A_10);
+    count_if(reason == 14, A_14);
+    count_if(reason == 9 && is_10, BOTH_9_AND_10);
+    count_if(reason == 9 && !is_10 && codeword >= power, BOTH_9_AND_14);
+    count_if(reason == 10 && number < MOST_RADII, A_10_BELOW_8);
+    count_if(reason == 10 && number < MOST_RADII && codeword == 0, A_10_AND_0);
+    count_if(reason == 14 && codeword == power, FIRST_PAST_WIDTH);
+    count_if(reason == 14 && power == 1, WIDTH_0_AND_14);
+}
+
+static void count_place(const struct table *table, uint64_t place)
+{
+    const struct reading reading = reading_of(table, &gathering, place);
+    const uint8_t *first = gathering.came[place].first;
+    counted.answers[reading.word]++;
+    count_if(reading.word != CONTESTED && gathering.came[place].claims > 1, HELD_AND_REPEATED);
+    if (reading.word == CONTESTED)
+        count_contested(place);
+    if (reading.word == SOUND || reading.word == MENDED)
+        count_shown(reading, codeword_of(first));
+    if (reading.word == UNREADABLE)
+        count_unreadable(row_at(table, place), first, reading.reason);
+}
+
+/* All of the capture. */
+static void count_all(const struct table *table, const struct capture *capture)
+{
+    const uint64_t whole = capture->size / RECORD_SIZE * RECORD_SIZE;
+    const uint8_t *part = capture->bytes + whole;
+    begin_gathering(&gathering, judge(table->bytes, table->size).places);
+    gather_run(&gathering, capture->bytes, capture->size);
+    for (uint64_t at = 0; at < whole; at += RECORD_SIZE)
+        tell_record(table, capture->bytes + at);
+    for (uint64_t place = 0; place < gathering.places; place++)
+        count_place(table, place);
+    if (capture->size - whole > AT_ROW && two_bytes(part) < gathering.places)
+        count_if(gathering.came[two_bytes(part)].claims == 0, PART_OF_MISSING);
+}
+
+/* A mended place needs an N that is no power of two: lengths from 2 on and widths from 3 on have one. */
+static void require_all(void)
+{
+    for (int thing = 0; thing < THINGS; thing++)
+        require(counted.things[thing], 1, "full page,", names[thing]);
+    for (uint64_t word = 0; word < READINGS; word++)
+        require_number(counted.answers[word], 1, "full page, places with answer", word);
+    for (uint64_t i = AT_ROW; i < RECORD_SIZE; i++)
+        require_number(counted.differing[i], 1, "full page, places contested by records that differ in one byte alone, byte", i);
+    for (uint64_t length = 1; length <= MOST_LENGTH; length++) {
+        require_number(counted.of_length[SOUND][length], 1, "full page, sound places of length", length);
+        require_number(counted.of_length[MENDED][length], length > 1, "full page, mended places of length", length);
+    }
+    for (uint64_t b = 0; b < WIDTHS; b++) {
+        require_number(counted.of_width[SOUND][b], 1, "full page, sound places of width", b);
+        require_number(counted.of_width[MENDED][b], b > 2, "full page, mended places of width", b);
+    }
+}
+
+void require_contents(const struct table *table, const struct capture *capture)
+{
+    const uint64_t *answers = counted.answers;
+    count_all(table, capture);
+    hold_to_take(table, capture, &gathering);
+    require(capture->size, LEAST_BYTES, "full page,", "bytes of records");
+    require_all();
+    printf("full_page: %lu bytes of records; %lu places sound, %lu mended, ", capture->size, answers[SOUND], answers[MENDED]);
+    printf("%lu missing, %lu contested, %lu unreadable; ", answers[MISSING], answers[CONTESTED], answers[UNREADABLE]);
+    printf("%lu takes refused\n", gathering.refused);
+}

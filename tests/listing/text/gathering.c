@@ -1,0 +1,51 @@
+/* What came for each place of a table. The page is not made step by step: of all that came for a place the first record
+   is kept, and whether any other differs from it, so that the order plays no part. See docs/RULES.md, "The page" and
+   "Listing program". */
+
+#include "../listing.h"
+
+#include <string.h>
+
+void begin_gathering(struct gathering *to, uint64_t places)
+{
+    *to = (struct gathering){.places = places};
+}
+
+/* One part of a capture. "A record of 8 bytes claims the place in its first two bytes if the table has that place";
+   any other part is a refused take. */
+void gather(struct gathering *to, const uint8_t *part, uint64_t size)
+{
+    const uint64_t place = size == RECORD_SIZE ? two_bytes(part + AT_PLACE) : to->places;
+    if (place >= to->places) {
+        to->refused++;
+        return;
+    }
+    uint8_t *first = to->came[place].first;
+    for (int i = 0; i < RECORD_SIZE && to->came[place].claims == 0; i++)
+        first[i] = part[i];
+    to->came[place].is_contested |= memcmp(first, part, RECORD_SIZE) != 0;
+    to->came[place].claims++;
+}
+
+/* "each 8 bytes in turn as a record, and a shorter last part too" */
+void gather_run(struct gathering *to, const uint8_t *run, uint64_t size)
+{
+    for (uint64_t at = 0; at < size; at += RECORD_SIZE)
+        gather(to, run + at, size - at < RECORD_SIZE ? size - at : RECORD_SIZE);
+}
+
+/* The cell that the page has for a place. */
+void cell_of(const struct gathering *from, uint64_t place, uint8_t *cell)
+{
+    const int is_empty = from->came[place].claims == 0, is_contested = from->came[place].is_contested;
+    cell[AT_STATE] = is_empty ? STATE_EMPTY : is_contested ? STATE_CONTESTED : STATE_HELD;
+    for (int i = 0; i < RECORD_SIZE; i++)
+        cell[AT_RECORD + i] = is_empty || is_contested ? 0 : from->came[place].first[i];
+}
+
+struct reading reading_of(const struct table *table, const struct gathering *from, uint64_t place)
+{
+    uint8_t cell[CELL_SIZE];
+    cell_of(from, place, cell);
+    return read_cell(table, place, cell);
+}

@@ -1,0 +1,48 @@
+/* The text of a listing; docs/RULES.md, "Listing program". */
+
+#include "../listing.h"
+
+#include <stdio.h>
+
+static const char *const words[READINGS] = {
+    [SOUND] = "sound",
+    [MENDED] = "mended",
+    [MISSING] = "missing",
+    [CONTESTED] = "contested",
+    [UNREADABLE] = "unreadable",
+};
+
+/* "what is written" */
+void point_shown(struct reading reading, int32_t *point)
+{
+    for (int i = 0; i < MOST_LENGTH; i++)
+        point[i] = 0;
+    if (reading.word == SOUND || reading.word == MENDED)
+        point_of(reading.shell, reading.index, point);
+}
+
+/* "place, answer, reason (0 where there is none), then the l coordinates of the point or l zeros". */
+static void print_place(uint64_t place, struct reading reading, uint64_t length)
+{
+    int32_t point[MOST_LENGTH];
+    point_shown(reading, point);
+    printf("%lu %s %lu", place, words[reading.word], reading.reason);
+    for (uint64_t i = 0; i < length; i++)
+        printf(" %d", point[i]);
+    printf("\n");
+}
+
+/* The table must be good. "`tally`, the five counts of the tally, the number of refused takes" */
+void print_listing(const struct table *table, const struct gathering *from)
+{
+    uint64_t counts[READINGS] = {0};
+    for (uint64_t place = 0; place < from->places; place++) {
+        const struct reading reading = reading_of(table, from, place);
+        print_place(place, reading, row_at(table, place)[AT_LENGTH]);
+        counts[reading.word]++;
+    }
+    printf("tally");
+    for (int word = 0; word < READINGS; word++)
+        printf(" %lu", counts[word]);
+    printf(" %lu\n", from->refused);
+}

@@ -1,0 +1,195 @@
+/* One comparison of one call with what is expected of it. The first difference ends the program, with the call, the
+   shell or the table, what was expected and what came. What a call is lent lies among guards; only a point that is
+   answered may change it. */
+
+#include "comparisons.h"
+
+#include <stdio.h>
+#include <stdlib.h>
+#include <string.h>
+
+struct comparisons compared;
+
+/* Numbers that no point of a shell has, all different. */
+struct point_room garbage(void)
+{
+    struct point_room room;
+    for (int32_t i = 0; i < (int32_t)ENTRIES(room.cells); i++)
+        room.cells[i] = i % 2 ? 1999999973 - i : i - 1999999943;
+    return room;
+}
+
+struct point_room garbage_around(const int32_t *point, uint64_t length)
+{
+    struct point_room room = garbage();
+    for (uint64_t i = 0; i < length && i < MOST_LENT; i++)
+        room.cells[GUARDS + i] = point[i];
+    return room;
+}
+
+int same_points(const struct point_room *one, const struct point_room *other)
+{
+    return memcmp(one, other, sizeof *one) == 0;
+}
+
+static void print_call(const char *call, struct shell shell, uint64_t lent)
+{
+    printf("%s, length %lu, radius %lu, buffer of %lu", call, shell.length, shell.radius, lent);
+}
+
+void print_point(const char *what, const int32_t *point, uint64_t length)
+{
+    printf("%s (", what);
+    for (uint64_t i = 0; i < length && i < MOST_LENT; i++)
+        printf(i ? ",%d" : "%d", point[i]);
+    printf(")");
+}
+
+void note(uint64_t expected, uint64_t *kind)
+{
+    if (expected > REFUSED)
+        compared.refusals[expected - REFUSED]++;
+    else
+        ++*kind;
+}
+
+void expect_count(struct shell shell, uint64_t expected)
+{
+    uint64_t got = probe_count(shell.length, shell.radius);
+    if (got != expected) {
+        printf("probe_count, length %lu, radius %lu", shell.length, shell.radius);
+        differ(expected, got);
+    }
+    note(expected, &compared.counts);
+}
+
+void expect_index(struct shell shell, const int32_t *point, uint64_t point_length, uint64_t expected)
+{
+    const struct point_room before = garbage_around(point, point_length);
+    struct point_room room = before;
+    uint64_t got = probe_index(shell.length, shell.radius, room.cells + GUARDS, point_length);
+    if (got == expected && same_points(&room, &before)) {
+        note(expected, &compared.indices);
+        return;
+    }
+    print_call("probe_index", shell, point_length);
+    print_point(", point", point, point_length);
+    if (got == expected)
+        end("the point that it was lent is changed");
+    differ(expected, got);
+}
+
+/* The point that the call answers, which must be all that it writes. */
+void read_point(struct shell shell, uint64_t index, int32_t *point)
+{
+    struct point_room room = garbage();
+    uint32_t got = probe_point(shell.length, shell.radius, index, room.cells + GUARDS, shell.length);
+    for (uint64_t i = 0; i < shell.length; i++)
+        point[i] = room.cells[GUARDS + i];
+    const struct point_room allowed = garbage_around(point, shell.length);
+    if (got == 0 && same_points(&room, &allowed)) {
+        compared.points++;
+        return;
+    }
+    print_call("probe_point", shell, shell.length);
+    printf(", index %lu", index);
+    if (got == 0)
+        end("something is written outside the buffer");
+    differ(0, as_answer(got));
+}
+
+/* An answered point that cannot be the point of the index. */
+void wrong_point(struct shell shell, uint64_t index, const int32_t *point, const char *what)
+{
+    print_call("probe_point", shell, shell.length);
+    printf(", index %lu: expected a point of that index, got %s,", index, what);
+    print_point("", point, shell.length);
+    printf("\n");
+    exit(1);
+}
+
+void expect_point(struct shell shell, uint64_t index, const int32_t *expected)
+{
+    int32_t point[MOST_LENGTH];
+    read_point(shell, index, point);
+    if (memcmp(point, expected, shell.length * sizeof *point) != 0) {
+        print_call("probe_point", shell, shell.length);
+        printf(", index %lu", index);
+        print_point(": expected", expected, shell.length);
+        print_point(", got", point, shell.length);
+        printf("\n");
+        exit(1);
+    }
+}
+
+void expect_point_refused(struct shell shell, uint64_t index, uint64_t out_length, uint32_t refusal)
+{
+    const struct point_room before = garbage();
+    struct point_room room = before;
+    uint32_t got = probe_point(shell.length, shell.radius, index, room.cells + GUARDS, out_length);
+    if (got == refusal && same_points(&room, &before)) {
+        compared.refusals[refusal]++;
+        return;
+    }
+    print_call("probe_point", shell, out_length);
+    printf(", index %lu", index);
+    if (got == refusal)
+        end("a buffer is written on a refusal");
+    differ(REFUSED + refusal, as_answer(got));
+}
+
+/* Both calls with no buffer at all: a null pointer and length 0. */
+void expect_refused_without_buffer(struct shell shell, uint64_t index, uint32_t refusal)
+{
+    uint64_t from_index = probe_index(shell.length, shell.radius, 0, 0);
+    uint32_t from_point = probe_point(shell.length, shell.radius, index, 0, 0);
+    if (from_index != REFUSED + refusal) {
+        print_call("probe_index", shell, 0);
+        differ(REFUSED + refusal, from_index);
+    }
+    if (from_point != refusal) {
+        print_call("probe_point", shell, 0);
+        printf(", index %lu", index);
+        differ(REFUSED + refusal, as_answer(from_point));
+    }
+    compared.refusals[refusal] += 2;
+}
+
+/* Both calls with a pairing table: 0 and the number of its places, or 7 and the row. */
+void expect_check(const struct table *table, uint32_t refusal, uint64_t value)
+{
+    const struct table_room before = table_among_guards(table);
+    struct table_room room = before;
+    uint32_t got = probe_check(room.bytes, table->size);
+    if (got != refusal || !same_table(&room, &before)) {
+        print_table("probe_check", table);
+        if (got == refusal)
+            end("the table that it was lent is changed");
+        differ(as_answer(refusal), as_answer(got));
+    }
+    uint64_t got_value = probe_check_value(room.bytes, table->size);
+    if (got_value != value || !same_table(&room, &before)) {
+        print_table("probe_check_value", table);
+        if (got_value == value)
+            end("the table that it was lent is changed");
+        printf(refusal ? ", row" : ", places");
+        differ(value, got_value);
+    }
+    note(as_answer(refusal), &compared.tables);
+}
+
+/* Both calls with no table at all: a null pointer and length 0. */
+void expect_check_without_table(void)
+{
+    uint32_t got = probe_check(0, 0);
+    uint64_t got_value = probe_check_value(0, 0);
+    if (got != 7) {
+        printf("probe_check, no table");
+        differ(as_answer(7), as_answer(got));
+    }
+    if (got_value != 0) {
+        printf("probe_check_value, no table, row");
+        differ(0, got_value);
+    }
+    compared.refusals[7]++;
+}

@@ -1,0 +1,85 @@
+/* The comparisons of the second program: these files alone call what is under test, by probe.h. */
+
+#ifndef SECOND_COMPARISONS_H
+#define SECOND_COMPARISONS_H
+
+#include "../draws/draws.h"
+#include "../kinds/lent.h"
+#include "../probe.h"
+#include "../rules/page.h"
+
+/* A lent point among guards: it begins at cells + GUARDS. */
+struct point_room {
+    int32_t cells[GUARDS + MOST_LENT + GUARDS];
+};
+
+/* compare.c: one comparison each; an expected answer may be REFUSED and a refusal number */
+struct comparisons {
+    uint64_t counts;
+    uint64_t indices;
+    uint64_t points;
+    uint64_t tables;
+    uint64_t vectors;
+    uint64_t takes;
+    uint64_t runs;
+    uint64_t places;
+    uint64_t coefficients;
+    uint64_t tallies;
+    uint64_t calls_of_page; /* how many calls the last five took */
+    uint64_t refusals[MOST_REFUSAL + 1];
+};
+extern struct comparisons compared;
+void expect_count(struct shell shell, uint64_t expected);
+void expect_index(struct shell shell, const int32_t *point, uint64_t point_length, uint64_t expected);
+void expect_point(struct shell shell, uint64_t index, const int32_t *expected);
+void expect_point_refused(struct shell shell, uint64_t index, uint64_t out_length, uint32_t refusal);
+void expect_refused_without_buffer(struct shell shell, uint64_t index, uint32_t refusal);
+void expect_check(const struct table *table, uint32_t refusal, uint64_t value);
+void expect_check_without_table(void);
+void read_point(struct shell shell, uint64_t index, int32_t *point);
+_Noreturn void wrong_point(struct shell shell, uint64_t index, const int32_t *point, const char *what);
+void note(uint64_t expected, uint64_t *kind);
+struct point_room garbage(void);
+struct point_room garbage_around(const int32_t *point, uint64_t length);
+int same_points(const struct point_room *one, const struct point_room *other);
+void print_point(const char *what, const int32_t *point, uint64_t length);
+
+/* compare_record.c: one comparison of quantize */
+void expect_quantize(const struct vector *vector, const struct answer *expected);
+
+/* compare_page.c: one comparison of take or collect with the rules of the page, whose answer is returned */
+uint64_t any_item(void);
+uint64_t item_of(struct list list, uint64_t which);
+_Noreturn void wrong_item(struct list expected, uint64_t which, uint64_t got);
+struct list compare_take(const struct table *table, struct page *page, const struct arrival *arrival);
+uint64_t compare_run(const struct table *table, struct page *page, const struct arrival *run);
+
+/* compare_reading.c: one comparison of read, coefficient or the tally */
+struct list compare_read(const struct question *question);
+struct list compare_coefficient(const struct question *question);
+struct list compare_tally(const struct table *table, const struct page *page);
+
+/* tables.c: the table of the whole case; docs/RULES.md, "Worked cases" */
+extern const struct table pairing_bin;
+
+/* vectors.c: any vector, held to the program's own quantizer, whose refusal is returned */
+uint32_t compare_vector(const struct vector *vector);
+
+/* All that is compared, each in the file that its name says; first without the page, then of the page */
+void compare_examples(void);
+void compare_listing(void);
+void compare_ends(void);
+void compare_random(void);
+void compare_refusals(void);
+void compare_sums(void);
+void compare_tables(void);
+void compare_vectors(void);
+void compare_checks(void);
+void compare_pages(void);
+void compare_takes(void);
+void compare_runs(void);
+void compare_places(void);
+void compare_tallies(void);
+void compare_page_checks(void);
+
+#endif

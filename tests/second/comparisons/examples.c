@@ -1,0 +1,52 @@
+/* The points and counts that docs/RULES.md gives, under "Points and counts" and "Worked cases". They also hold the
+   program's own ranking to that page. */
+
+#include "comparisons.h"
+
+#include <stdio.h>
+
+static const struct {
+    struct shell shell;
+    int32_t point[4];
+    uint64_t index;
+} points[] = {
+    {{3, 2}, {0, 1, 1}, 0},
+    {{3, 2}, {1, 0, -1}, 5},
+    {{3, 2}, {-1, 0, -1}, 7},
+    {{3, 2}, {-1, -1, 0}, 11},
+    {{3, 2}, {0, 0, 2}, 12},
+    {{3, 2}, {-2, 0, 0}, 17},
+    {{2, 3}, {1, 2}, 0},
+    {{2, 3}, {2, -1}, 5},
+    {{2, 3}, {-3, 0}, 11},
+    {{1, 5}, {-5}, 1},
+    {{4, 0}, {0, 0, 0, 0}, 0},
+};
+
+static const struct {
+    struct shell shell;
+    uint64_t answer;
+} counts[] = {
+    {{2, 3}, 12},
+    {{3, 2}, 18},
+    {{4, 0}, 1},
+    {{16, 12}, 3575055360},
+    {{16, 13}, REFUSED + 3},
+    {{0, 2}, REFUSED + 1},
+    {{17, 2}, REFUSED + 1},
+    {{3, 33}, REFUSED + 2},
+};
+
+void compare_examples(void)
+{
+    for (uint64_t i = 0; i < ENTRIES(points); i++) {
+        if (rank(points[i].shell, points[i].point) != points[i].index)
+            own_error("its ranking and an example of the rules differ", points[i].shell);
+        expect_index(points[i].shell, points[i].point, points[i].shell.length, points[i].index);
+        expect_point(points[i].shell, points[i].index, points[i].point);
+    }
+    for (uint64_t i = 0; i < ENTRIES(counts); i++)
+        expect_count(counts[i].shell, counts[i].answer);
+    expect_point_refused((struct shell){3, 2}, 18, 3, 6);
+    printf("examples: %lu points, %lu counts\n", ENTRIES(points), ENTRIES(counts));
+}

@@ -1,0 +1,118 @@
+/* Every point of the small shells, made one after the other in the order of docs/RULES.md, "The product index", and
+   numbered by counting. No formula for a count is used here.
+
+   The order, read from that page:
+   - Ranges run from s = m down to 1, so the points with the most nonzero coordinates come first.
+   - Index = start + (pattern x S + shape) x 2^s + sign: the pattern changes slowest, then the shape, then the signs.
+   - Pattern: a nonzero first coordinate adds D(s,l-1), which is how many patterns have a zero there. So those come
+     first: zero before nonzero, the first coordinate slowest.
+   - Shape: a first magnitude i adds S(s,k) - S(s,k-i+1). The second is how many shapes have a first magnitude of i or
+     more (take i-1 off it), so the difference is how many have a smaller one. Small magnitudes come first, the first
+     magnitude slowest.
+   - Sign: the first nonzero coordinate has the highest bit, 1 for negative. Positive before negative, the first
+     slowest.
+
+   Length 3, radius 2, from 0: (0,1,1) (0,1,-1) (0,-1,1) (0,-1,-1) (1,0,1) .. (-1,-1,0) (0,0,2) (0,0,-2) (0,2,0) ..
+   (-2,0,0). */
+
+#include "comparisons.h"
+
+#include <stdio.h>
+#include <string.h>
+
+enum { MOST_LISTED = 100000 }; /* the N up to which every point of a shell is compared */
+
+/* A listing under way: the point as far as it is made, and the number that the next one gets. */
+struct listing {
+    struct shell shell;
+    uint64_t s;
+    uint64_t place[MOST_LENGTH];    /* of each nonzero coordinate, the first one first */
+    int32_t magnitude[MOST_LENGTH]; /* of each nonzero coordinate */
+    int32_t point[MOST_LENGTH];
+    uint64_t next;
+};
+
+static uint64_t shells_listed, points_listed;
+
+/* The point is whole: its number is its index. The program's own ranking, and its way back, are held to
+   the listing too. */
+static void list_point(struct listing *to)
+{
+    int32_t point[MOST_LENGTH];
+    expect_index(to->shell, to->point, to->shell.length, to->next);
+    expect_point(to->shell, to->next, to->point);
+    point_of(to->shell, to->next, point);
+    if (memcmp(point, to->point, to->shell.length * sizeof *point) != 0)
+        own_error("its point of an index and its listing differ", to->shell);
+    if (rank(to->shell, to->point) != to->next)
+        own_error("its ranking and its listing differ", to->shell);
+    to->next++;
+}
+
+/* Signs of the nonzero coordinates from number `from` on: positive, then negative. */
+static void list_signs(struct listing *to, uint64_t from)
+{
+    if (from == to->s) {
+        list_point(to);
+        return;
+    }
+    to->point[to->place[from]] = to->magnitude[from];
+    list_signs(to, from + 1);
+    to->point[to->place[from]] = -to->magnitude[from];
+    list_signs(to, from + 1);
+}
+
+/* Magnitudes, with sum `sum`, of the nonzero coordinates from number `from` on: the smallest first. Each later one
+   needs 1 or more, and the last one has what is left. */
+static void list_shapes(struct listing *to, uint64_t from, uint64_t sum)
+{
+    uint64_t later = to->s - from - 1;
+    for (uint64_t i = later ? 1 : sum; i + later <= sum; i++) {
+        to->magnitude[from] = (int32_t)i;
+        if (later)
+            list_shapes(to, from + 1, sum - i);
+        else
+            list_signs(to, 0);
+    }
+}
+
+/* Patterns of the coordinates from `at` on, `nonzero` of them nonzero: a zero, where enough coordinates are left,
+   then a nonzero. */
+static void list_patterns(struct listing *to, uint64_t at, uint64_t nonzero)
+{
+    if (at == to->shell.length) {
+        list_shapes(to, 0, to->shell.radius);
+        return;
+    }
+    if (nonzero < to->shell.length - at) {
+        to->point[at] = 0;
+        list_patterns(to, at + 1, nonzero);
+    }
+    if (nonzero > 0) {
+        to->place[to->s - nonzero] = at;
+        list_patterns(to, at + 1, nonzero - 1);
+    }
+}
+
+static void list_shell(struct shell shell)
+{
+    struct listing to = {.shell = shell};
+    if (points_of(shell) > MOST_LISTED)
+        return;
+    if (shell.radius == 0)
+        list_point(&to);
+    for (to.s = most_nonzero(shell); to.s > 0; to.s--)
+        list_patterns(&to, 0, to.s);
+    if (to.next != points_of(shell))
+        own_error("it lists another number of points than N", shell);
+    shells_listed++;
+    points_listed += to.next;
+}
+
+void compare_listing(void)
+{
+    for_each_shell(list_shell);
+    own_figure("shells with N at most 100,000", shells_listed, 224);
+    own_figure("points of these", points_listed, 2067158);
+    printf("listed: %lu shells, %lu points\n", shells_listed, points_listed);
+}

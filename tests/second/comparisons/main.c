@@ -1,0 +1,40 @@
+/* The second program: compares the calls of probe.h with docs/RULES.md by means of its own, and says what it compared.
+   The first difference ends it with status 1. */
+
+#include "../kinds/kinds.h"
+#include "comparisons.h"
+
+#include <stdio.h>
+
+/* 9 and 10 are reasons of an unreadable place: no call refuses with them. */
+static void print_compared(void)
+{
+    const int refusals[] = {1, 2, 3, 4, 5, 6, 7, 8, 11, 12, 13};
+    printf("refused:");
+    for (uint64_t i = 0; i < ENTRIES(refusals); i++)
+        printf("%s %lu with %d", i > 0 ? "," : "", compared.refusals[refusals[i]], refusals[i]);
+    printf("\nagreed: %lu counts, %lu indices, %lu points, ", compared.counts, compared.indices, compared.points);
+    printf("%lu pairing tables, %lu quantized vectors, ", compared.tables, compared.vectors);
+    printf("%lu taken records, %lu runs of records, ", compared.takes, compared.runs);
+    printf("%lu places, %lu coefficients, ", compared.places, compared.coefficients);
+    printf("%lu tallies and every refusal\n", compared.tallies);
+}
+
+int main(void)
+{
+    count_points();
+    count_patterns_and_shapes();
+    compare_examples();
+    compare_listing();
+    compare_ends();
+    compare_random();
+    compare_refusals();
+    compare_sums();
+    compare_tables();
+    compare_vectors();
+    compare_checks();
+    require_kinds();
+    compare_pages();
+    print_compared();
+    return 0;
+}

@@ -1,0 +1,72 @@
+/* The page: the whole case of docs/RULES.md, "Worked cases", and then all that is compared by chance, in the files that
+   are named so. The draws begin anew here, so that they do not depend on the comparisons before. */
+
+#include "../kinds/page_kinds.h"
+#include "comparisons.h"
+
+#include <stdio.h>
+#include <string.h>
+
+enum { SEED = 4096 };
+
+/* `records.bin`, what the page holds then, and how it is read. */
+static const uint8_t records_bin[] = {0, 0, 0, 1, 0, 0, 0, 0x05, 0, 1, 0, 1, 0, 0, 0, 0x12};
+static const uint8_t page_wanted[] = {1, 0, 0, 0, 1, 0, 0, 0, 0x05, 1, 0, 1, 0, 1, 0, 0, 0, 0x12};
+static const uint64_t tally_wanted[ITEMS] = {0, 1, 1, 0, 0, 0};
+static const struct {
+    enum reading_word word;
+    int32_t point[3];
+    uint32_t values[3];
+} wanted[] = {
+    {SOUND, {1, 0, -1}, {BITS_OF_1, 0, MINUS(BITS_OF_1)}},
+    {MENDED, {0, -1, 1}, {0, MINUS(BITS_OF_1), BITS_OF_1}},
+};
+
+static struct page page;
+
+/* One place of the whole case, as a whole and by its coefficients. */
+static void compare_whole_place(uint64_t place)
+{
+    struct question question = {&pairing_bin, &page, place, ENTRIES(wanted->point)};
+    int32_t point[MOST_LENGTH];
+    uint32_t bits;
+    own_figure("answer of the whole case", read_place(&question, point).items[1], wanted[place].word);
+    own_figure("point of the whole case", memcmp(point, wanted[place].point, sizeof wanted->point) != 0, 0);
+    compare_read(&question);
+    for (question.number = 0; question.number < ENTRIES(wanted->point); question.number++) {
+        own_figure("answer of a coefficient of the whole case", coefficient(&question, &bits).items[1], wanted[place].word);
+        own_figure("value of a coefficient of the whole case", bits, wanted[place].values[question.number]);
+        compare_coefficient(&question);
+    }
+    own_figure("refusal at the length in the whole case", compare_coefficient(&question).items[0], 13);
+}
+
+/* The whole case holds the program's own rules to docs/RULES.md too. */
+static void compare_whole_case(void)
+{
+    struct arrival run = {.length = sizeof records_bin};
+    for (uint64_t i = 0; i < sizeof records_bin; i++)
+        run.bytes[i] = records_bin[i];
+    begin_page(&page, ENTRIES(wanted));
+    own_figure("refused takes of the whole case", compare_run(&pairing_bin, &page, &run), 0);
+    own_figure("page of the whole case", memcmp(cell_at(&page, 0), page_wanted, sizeof page_wanted) != 0, 0);
+    for (uint64_t place = 0; place < ENTRIES(wanted); place++)
+        compare_whole_place(place);
+    own_figure("tally of the whole case",
+               memcmp(compare_tally(&pairing_bin, &page).items, tally_wanted, sizeof tally_wanted) != 0, 0);
+}
+
+void compare_pages(void)
+{
+    chance_from(SEED);
+    compare_whole_case();
+    compare_takes();
+    compare_runs();
+    compare_places();
+    compare_tallies();
+    compare_page_checks();
+    require_page_kinds();
+    printf("pages: %lu takes, %lu runs, %lu places, ", compared.takes, compared.runs, compared.places);
+    printf("%lu coefficients and %lu tallies answered, by %lu calls\n", compared.coefficients, compared.tallies,
+           compared.calls_of_page);
+}

@@ -1,0 +1,97 @@
+/* Reading places and single coefficients: in every usable shell the codewords beside which the answer changes and
+   others, and any cells, places, lengths and coordinates by chance. See docs/RULES.md, "The page". */
+
+#include "../draws/page_draws.h"
+#include "comparisons.h"
+
+#include <stdio.h>
+
+enum { TABLES_OF_SHELL = 18, CODEWORDS_OF_SHELL = 20, TABLES = 1200, QUESTIONS_OF_TABLE = 100 };
+
+static struct page page;
+
+/* The length or more, and numbers that are below it where they are cut. */
+static uint64_t wrong_coordinate(uint64_t length)
+{
+    const uint64_t coordinate = chance_below(length);
+    const uint64_t past[] = {length, length + 1, MOST_LENGTH, TWO_TO_32 - 1, TWO_TO_63, UINT64_MAX};
+    const uint64_t cut[] = {256, 65536, TWO_TO_32, TWO_TO_63, UINT64_MAX - TWO_TO_32 + 1};
+    return chance_below(2) ? past[chance_below(ENTRIES(past))] : cut[chance_below(ENTRIES(cut))] + coordinate;
+}
+
+/* The place as a whole, and coordinates of it: one, or all. */
+static void compare_place(const struct table *table, uint64_t place, int is_all)
+{
+    const uint64_t length = row_at(table, place)[AT_LENGTH];
+    compare_read(&(struct question){table, &page, place, length});
+    if (!is_all)
+        compare_coefficient(&(struct question){table, &page, place, chance_below(length)});
+    for (uint64_t coordinate = 0; is_all && coordinate < length; coordinate++)
+        compare_coefficient(&(struct question){table, &page, place, coordinate});
+}
+
+/* A codeword for number i: those beside which the answer changes, then below N, mended, and 2^b or more where
+   there are such. */
+static uint64_t codeword_of_number(struct shell shell, uint64_t i)
+{
+    const uint64_t n = points_of(shell), bounds[] = {0, n, least_power_from(n), TWO_TO_32};
+    const uint64_t least = bounds[i % 3], bound = bounds[i % 3 + 1];
+    if (i < CODEWORDS_BESIDE)
+        return codeword_beside(shell, i);
+    return least < bound ? least + chance_below(bound - least) : chance_below(n);
+}
+
+/* A table that has the shell in one of its rows, and a place of this row. */
+static void compare_codewords(struct shell shell)
+{
+    struct table table = small_table_by_chance();
+    const uint64_t row = chance_below(table.size / ROW_SIZE);
+    uint64_t place, number = 0;
+    plant_shell(&table, row, shell);
+    do
+        place = some_place(&table);
+    while (row_of(&table, place) != row);
+    while (table.bytes[row * ROW_SIZE + AT_RADII + number] != shell.radius)
+        number++;
+    page_by_chance(&page, &table, 8);
+    for (uint64_t i = 0; i < CODEWORDS_OF_SHELL; i++) {
+        uint8_t cell[CELL_SIZE] = {STATE_HELD};
+        write_record(cell + AT_RECORD, place, row, number, codeword_of_number(shell, i));
+        set_cell(&page, place, cell);
+        compare_place(&table, place, i % 8 == 0);
+    }
+}
+
+static void compare_shell(struct shell shell)
+{
+    for (int i = 0; i < TABLES_OF_SHELL; i++)
+        compare_codewords(shell);
+}
+
+/* Anything that can be asked: a new cell for the place, at times at fault; a place, a length or a coordinate
+   that is not right. */
+static void compare_question(const struct table *table)
+{
+    const uint64_t right = some_place(table), length = row_at(table, right)[AT_LENGTH], size = page.size;
+    const uint64_t place = chance_below(16) ? right : wrong_place(page.places);
+    if (chance_below(4))
+        draw_cell(&page, table, right, 6);
+    if (chance_below(24) == 0)
+        page.size = wrong_page_size(&page);
+    compare_read(&(struct question){table, &page, place, chance_below(16) ? length : other_than(length, MOST_OUTPUT)});
+    compare_coefficient(&(struct question){table, &page, place, chance_below(8) ? chance_below(length) : wrong_coordinate(length)});
+    page.size = size;
+}
+
+void compare_places(void)
+{
+    for_each_usable_shell(compare_shell);
+    for (int i = 0; i < TABLES; i++) {
+        const struct table table = page_table_by_chance();
+        page_by_chance(&page, &table, 8);
+        for (int j = 0; j < QUESTIONS_OF_TABLE; j++)
+            compare_question(&table);
+    }
+    printf("places: 407 shells in %d tables each, %d questions by chance on %d tables\n", TABLES_OF_SHELL,
+           TABLES * QUESTIONS_OF_TABLE, TABLES);
+}

@@ -1,0 +1,56 @@
+/* Indices and points by chance in every usable shell: the point of an index lies on the shell and has that index,
+   a point is the point of its index, and both agree with the ranking of rules/ranking.c; docs/RULES.md, "The
+   product index". */
+
+#include "comparisons.h"
+
+#include <stdio.h>
+
+enum { INDICES = 10000, POINTS = 2000 };
+
+static uint64_t indices, points;
+
+static int is_on_shell(struct shell shell, const int32_t *point)
+{
+    uint64_t sum = 0;
+    for (uint64_t i = 0; i < shell.length; i++)
+        sum += magnitude(point[i]);
+    return sum == shell.radius;
+}
+
+static void compare_index(struct shell shell, uint64_t index)
+{
+    int32_t point[MOST_LENGTH];
+    read_point(shell, index, point);
+    if (!is_on_shell(shell, point))
+        wrong_point(shell, index, point, "a point that is not on the shell");
+    if (rank(shell, point) != index)
+        wrong_point(shell, index, point, "a point of another index");
+    expect_index(shell, point, shell.length, index);
+    indices++;
+}
+
+static void compare_point(struct shell shell)
+{
+    int32_t point[MOST_LENGTH] = {0};
+    if (shell.radius > 0)
+        point_by_chance(shell, point);
+    uint64_t index = rank(shell, point);
+    expect_index(shell, point, shell.length, index);
+    expect_point(shell, index, point);
+    points++;
+}
+
+static void compare_shell(struct shell shell)
+{
+    for (int i = 0; i < INDICES; i++)
+        compare_index(shell, chance_below(points_of(shell)));
+    for (int i = 0; i < POINTS; i++)
+        compare_point(shell);
+}
+
+void compare_random(void)
+{
+    for_each_usable_shell(compare_shell);
+    printf("random: %lu indices, %lu points\n", indices, points);
+}

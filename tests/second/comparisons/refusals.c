@@ -1,0 +1,99 @@
+/* Refusals 1, 2, 3, 4 and 6 of the first three calls, each together with everything that would be refused later, so
+   that the order of checks is compared too; docs/RULES.md, "Refusal numbers" and "Order of checks". Refusals 5 and 7
+   have files of their own, sums.c and tables.c; those of quantize are in checks.c, and those of the page in
+   page_checks.c. */
+
+#include "comparisons.h"
+
+static const uint64_t bad_lengths[] = {0, 17, 18, TWO_TO_32, TWO_TO_32 + 1, TWO_TO_32 + 16, TWO_TO_63, TWO_TO_63 + 3, UINT64_MAX};
+static const uint64_t bad_radii[] = {33, 34, TWO_TO_32, TWO_TO_32 + 1, TWO_TO_32 + 32, TWO_TO_63, TWO_TO_63 + 2, UINT64_MAX};
+
+static uint64_t unusable;
+
+/* One lent length: index with magnitudes that sum to k, with zeros and with the lowest values, point with all
+   kinds of indices. */
+static void refuse_buffer(struct shell shell, uint64_t lent, uint32_t refusal)
+{
+    int32_t point[MOST_LENT] = {(int32_t)(shell.radius < TWO_TO_32 ? shell.radius : 0)};
+    const uint64_t indices[] = {0, 1, 17, TWO_TO_32 - 1, TWO_TO_32, TWO_TO_63, UINT64_MAX};
+    expect_index(shell, point, lent, REFUSED + refusal);
+    point[0] = 0;
+    expect_index(shell, point, lent, REFUSED + refusal);
+    for (int i = 0; i < MOST_LENT; i++)
+        point[i] = INT32_MIN;
+    expect_index(shell, point, lent, REFUSED + refusal);
+    for (uint64_t i = 0; i < ENTRIES(indices); i++)
+        expect_point_refused(shell, indices[i], lent, refusal);
+}
+
+/* The first three calls, whatever the buffer. */
+static void refuse_shell(struct shell shell, uint32_t refusal)
+{
+    expect_count(shell, REFUSED + refusal);
+    expect_refused_without_buffer(shell, 0, refusal);
+    for (uint64_t lent = 0; lent <= MOST_LENGTH + 2; lent++)
+        refuse_buffer(shell, lent, refusal);
+}
+
+static void refuse_lengths(void)
+{
+    for (uint64_t i = 0; i < ENTRIES(bad_lengths); i++) {
+        for (uint64_t radius = 0; radius <= MOST_RADIUS; radius++)
+            refuse_shell((struct shell){bad_lengths[i], radius}, 1);
+        for (uint64_t j = 0; j < ENTRIES(bad_radii); j++)
+            refuse_shell((struct shell){bad_lengths[i], bad_radii[j]}, 1);
+    }
+}
+
+static void refuse_radii(void)
+{
+    for (uint64_t length = 1; length <= MOST_LENGTH; length++)
+        for (uint64_t i = 0; i < ENTRIES(bad_radii); i++)
+            refuse_shell((struct shell){length, bad_radii[i]}, 2);
+}
+
+static void refuse_unusable(struct shell shell)
+{
+    if (!is_usable(shell)) {
+        refuse_shell(shell, 3);
+        unusable++;
+    }
+}
+
+/* Every other length of a buffer up to the room for it, and one that is l where a number is cut to 32 bits: the call
+   may look at nothing of that one, since its length alone is wrong. */
+static void refuse_wrong_buffers(struct shell shell)
+{
+    expect_refused_without_buffer(shell, 0, 4);
+    expect_refused_without_buffer(shell, points_of(shell), 4);
+    for (uint64_t lent = 0; lent <= MOST_LENT; lent++)
+        if (lent != shell.length)
+            refuse_buffer(shell, lent, 4);
+    refuse_buffer(shell, TWO_TO_32 + shell.length, 4);
+}
+
+/* From N on, and what is below N only where a number is cut to 32 bits or read as negative. */
+static void refuse_indices(struct shell shell)
+{
+    const uint64_t n = points_of(shell);
+    const uint64_t past[] = {0, 1, 2, n, TWO_TO_32 - n, UINT64_MAX - n};
+    const uint64_t cut[] = {TWO_TO_32, 2 * TWO_TO_32, REFUSED, TWO_TO_63 - TWO_TO_32, TWO_TO_63, UINT64_MAX - TWO_TO_32 + 1};
+    for (uint64_t i = 0; i < ENTRIES(past); i++)
+        expect_point_refused(shell, n + past[i], shell.length, 6);
+    for (uint64_t i = 0; i < ENTRIES(cut); i++) {
+        expect_point_refused(shell, cut[i], shell.length, 6);
+        expect_point_refused(shell, cut[i] + n - 1, shell.length, 6);
+        expect_point_refused(shell, cut[i] + chance_below(n), shell.length, 6);
+    }
+    expect_point_refused(shell, n + chance_below(UINT64_MAX - n), shell.length, 6);
+}
+
+void compare_refusals(void)
+{
+    refuse_lengths();
+    refuse_radii();
+    for_each_shell(refuse_unusable);
+    own_figure("shells that are not usable", unusable, 121);
+    for_each_usable_shell(refuse_wrong_buffers);
+    for_each_usable_shell(refuse_indices);
+}

@@ -1,0 +1,29 @@
+/* What is drawn by chance, the same in every run: numbers, points, pairing tables and vectors. Nothing here calls what
+   is under test. */
+
+#ifndef SECOND_DRAWS_H
+#define SECOND_DRAWS_H
+
+#include "../rules/rules.h"
+
+/* chance.c: numbers, signs, points, rows and tables */
+void chance_from(uint64_t seed);
+uint64_t chance_below(uint64_t bound);
+void sign_by_chance(const uint64_t *magnitudes, uint64_t length, int32_t *point);
+void point_by_chance(struct shell shell, int32_t *point);
+struct table rows_by_chance(uint64_t rows, uint64_t most);
+void aim_total(struct table *table, uint64_t number, uint64_t total);
+struct table table_by_chance(void);
+struct table good_table_by_chance(void);
+
+/* coefficients.c: vectors, and places of a table */
+void spoil(struct vector *vector);
+uint64_t some_place(const struct table *table);
+void place_by_chance(struct vector *vector);
+void coefficients_by_chance(struct vector *vector);
+
+/* others.c: a place that is not in a table, and another number than the right one */
+uint64_t wrong_place(uint64_t places);
+uint64_t other_than(uint64_t right, uint64_t most);
+
+#endif

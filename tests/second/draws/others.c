@@ -1,0 +1,21 @@
+/* Numbers by chance that are not the right ones. */
+
+#include "draws.h"
+
+/* A place past the end, or one that is in the table only where a number is cut. */
+uint64_t wrong_place(uint64_t places)
+{
+    const uint64_t place = chance_below(places);
+    const uint64_t past[] = {places, places + 1, MOST_PLACES, MOST_PLACES + 1, 65535, TWO_TO_32 - 1, UINT64_MAX - 1, UINT64_MAX};
+    const uint64_t cut[] = {65536, TWO_TO_32, (uint64_t)1 << 40, TWO_TO_63, UINT64_MAX - 65535, UINT64_MAX - TWO_TO_32 + 1};
+    if (chance_below(2))
+        return past[chance_below(ENTRIES(past))];
+    return cut[chance_below(ENTRIES(cut))] + place;
+}
+
+/* A number up to `most`, but not the right one. */
+uint64_t other_than(uint64_t right, uint64_t most)
+{
+    const uint64_t number = chance_below(most);
+    return number < right ? number : number + 1;
+}

@@ -1,0 +1,190 @@
+/* Pairing tables for pages, records, cells and pages by chance: good ones, and all that can be wrong with them. See
+   docs/RULES.md, "The page" and "Quantizing into a record". */
+
+#include "page_draws.h"
+
+/* A good table with few places in each row, at times with one place in all. */
+struct table small_table_by_chance(void)
+{
+    struct table table = good_table_by_chance();
+    const uint64_t is_single = chance_below(8) == 0;
+    if (is_single)
+        table.size = ROW_SIZE;
+    for (uint8_t *row = table.bytes; row < table.bytes + table.size; row += ROW_SIZE)
+        set_two_bytes(row + AT_PLACES, is_single ? 1 : 1 + chance_below(4));
+    return table;
+}
+
+/* A good table of few places or of many. */
+struct table page_table_by_chance(void)
+{
+    return chance_below(2) ? small_table_by_chance() : good_table_by_chance();
+}
+
+/* Gives a table one of the faults that are rare by chance. */
+static void give_fault(struct table *table, enum fault fault)
+{
+    uint8_t *row = table->bytes + chance_below(table->size / ROW_SIZE + 1) * ROW_SIZE;
+    if (fault == NO_BYTES)
+        table->size = 0;
+    if (fault == MORE_THAN_32_ROWS)
+        *table = rows_by_chance(MOST_ROWS + 1, MOST_PLACES / (MOST_ROWS + 1));
+    if (fault == NO_STEP)
+        set_two_bytes(row + AT_STEP, 0);
+    if (fault == NO_PLACES)
+        set_two_bytes(row + AT_PLACES, 0);
+}
+
+/* A table whose size, or whose first bad row, has that fault, and maybe others. */
+struct table bad_table_by_chance(enum fault fault)
+{
+    struct table table;
+    do {
+        table = table_by_chance();
+        give_fault(&table, fault);
+    } while ((judge(table.bytes, table.size).faults >> fault & 1) == 0);
+    return table;
+}
+
+/* Gives a row the length of a usable shell, and other radii: that of the shell, and more by chance, for
+   which room is kept. */
+void plant_shell(struct table *table, uint64_t number, struct shell shell)
+{
+    uint8_t *row = table->bytes + number * ROW_SIZE;
+    uint64_t have = 1;
+    row[AT_LENGTH] = (uint8_t)shell.length;
+    for (uint64_t radius = 1; radius <= MOST_RADIUS && is_usable((struct shell){shell.length, radius}); radius++) {
+        const uint64_t kept = radius < shell.radius;
+        if (radius == shell.radius || (have + kept < MOST_RADII && chance_below(4) == 0))
+            row[AT_RADII + have++] = (uint8_t)radius;
+    }
+    row[AT_NUMBER_OF_RADII] = (uint8_t)have;
+    for (; have < MOST_RADII; have++)
+        row[AT_RADII + have] = 0;
+}
+
+/* The codewords beside which the answer changes, as far as there are such. */
+uint64_t codeword_beside(struct shell shell, uint64_t number)
+{
+    const uint64_t n = points_of(shell), power = least_power_from(n);
+    const uint64_t beside[CODEWORDS_BESIDE] = {0, n - 1, n, n + 1, power - 1, power, power + 1, TWO_TO_32 - 1};
+    return beside[number] < TWO_TO_32 ? beside[number] : TWO_TO_32 - 1;
+}
+
+/* One of these, one that is sound or mended, or any. */
+static uint64_t codeword_by_chance(struct shell shell)
+{
+    const uint64_t n = points_of(shell), power = least_power_from(n), choice = chance_below(8);
+    if (choice < 3)
+        return codeword_beside(shell, chance_below(CODEWORDS_BESIDE));
+    if (choice < 5)
+        return chance_below(n);
+    return choice < 7 && n < power ? n + chance_below(power - n) : chance_below(TWO_TO_32);
+}
+
+/* A radius number from the row's number of radii on, often below 8, and then often with codeword 0. */
+static void spoil_radius_number(const uint8_t *row, uint8_t *record)
+{
+    const uint64_t number = row[AT_NUMBER_OF_RADII], least = chance_below(2) ? number : MOST_RADII;
+    const uint64_t bounds[] = {1, MOST_RADII + 1 - number, 256 - least};
+    record[AT_RADIUS_NUMBER] = (uint8_t)(least + chance_below(bounds[chance_below(ENTRIES(bounds))]));
+    for (uint64_t i = AT_CODEWORD, is_zero = chance_below(2); is_zero && i < RECORD_SIZE; i++)
+        record[i] = 0;
+}
+
+/* A record that claims a place of a good table. Its row or its radius number, or both, are at times wrong. */
+void record_by_chance(const struct table *table, uint64_t place, uint8_t *record)
+{
+    const uint64_t row = row_of(table, place), others[] = {row + 1, row + 255, other_than(row, 255), 255 - row};
+    const uint8_t *fields = row_at(table, place);
+    const uint64_t number = chance_below(fields[AT_NUMBER_OF_RADII]), faults = chance_below(16);
+    const struct shell shell = {fields[AT_LENGTH], fields[AT_RADII + number]};
+    write_record(record, place, row, number, codeword_by_chance(shell));
+    if (faults < 3)
+        record[AT_ROW] = (uint8_t)others[chance_below(ENTRIES(others))];
+    if (faults == 0 || faults == 3 || faults == 4)
+        spoil_radius_number(fields, record);
+}
+
+/* A cell that is not at fault: empty or contested, with zeros or not, or held. */
+void cell_by_chance(const struct table *table, uint64_t place, uint8_t *cell)
+{
+    const uint8_t states[] = {STATE_EMPTY, STATE_EMPTY, STATE_CONTESTED, STATE_CONTESTED, STATE_HELD};
+    const uint64_t choice = chance_below(8), is_zeros = choice == 0 || choice == 2, is_any = choice < 4 && chance_below(2);
+    cell[AT_STATE] = states[choice < 4 ? choice : 4];
+    record_by_chance(table, place, cell + AT_RECORD);
+    for (uint64_t i = AT_RECORD; i < CELL_SIZE && (is_zeros || is_any); i++)
+        cell[i] = is_zeros ? 0 : (uint8_t)chance_below(256);
+}
+
+/* Makes a cell be at fault: another state, or held with a place number of which the high byte, the low byte or
+   both are changed. */
+void spoil_cell(uint64_t place, uint8_t *cell)
+{
+    const uint8_t states[] = {3, 4, 127, 128, 129, 130, 254, 255};
+    const uint64_t changed = 1 + chance_below(3);
+    if (chance_below(2)) {
+        cell[AT_STATE] = chance_below(4) ? (uint8_t)(3 + chance_below(253)) : states[chance_below(ENTRIES(states))];
+        return;
+    }
+    cell[AT_STATE] = STATE_HELD;
+    set_two_bytes(cell + AT_RECORD + AT_PLACE, place);
+    if (changed != 1)
+        cell[AT_RECORD + AT_PLACE] ^= (uint8_t)(chance_below(2) ? 1 : 1 + chance_below(255));
+    if (changed != 2)
+        cell[AT_RECORD + AT_PLACE + 1] ^= (uint8_t)(chance_below(2) ? 1 : 1 + chance_below(255));
+}
+
+/* Gives a place a new cell, of which one in so many is at fault; none for 0. */
+void draw_cell(struct page *page, const struct table *table, uint64_t place, uint64_t one_bad_in)
+{
+    uint8_t cell[CELL_SIZE];
+    cell_by_chance(table, place, cell);
+    if (one_bad_in > 0 && chance_below(one_bad_in) == 0)
+        spoil_cell(place, cell);
+    set_cell(page, place, cell);
+}
+
+/* All cells of a good table's page. */
+void page_by_chance(struct page *page, const struct table *table, uint64_t one_bad_in)
+{
+    begin_page(page, judge(table->bytes, table->size).places);
+    for (uint64_t place = 0; place < page->places; place++)
+        draw_cell(page, table, place, one_bad_in);
+}
+
+/* A record that claims a place: what its cell has, the same but for one byte, or any. */
+struct arrival arrival_by_chance(const struct table *table, const struct page *page, uint64_t place)
+{
+    struct arrival arrival = {.length = RECORD_SIZE};
+    const uint8_t *record = cell_at(page, place) + AT_RECORD;
+    const uint64_t choice = chance_below(8), byte = AT_ROW + chance_below(RECORD_SIZE - AT_ROW), bit = chance_below(8);
+    for (uint64_t i = 0; i < RECORD_SIZE; i++)
+        arrival.bytes[i] = record[i];
+    if (choice < 3)
+        arrival.bytes[byte] ^= (uint8_t)(chance_below(2) ? (uint64_t)1 << bit : 1 + chance_below(255));
+    if (choice > 4)
+        record_by_chance(table, place, arrival.bytes);
+    set_two_bytes(arrival.bytes + AT_PLACE, place);
+    return arrival;
+}
+
+/* A place number of two bytes that is not in the table, often one that is where a number is cut or its bytes
+   are exchanged. */
+uint64_t place_past_end(uint64_t places)
+{
+    const uint64_t place = chance_below(places), exchanged = place % 256 * 256 + place / 256;
+    const uint64_t past[] = {places, places + 1, MOST_PLACES + place, 65535, exchanged, place % 256 + 256 * chance_below(256)};
+    const uint64_t choice = chance_below(ENTRIES(past) + 1);
+    return choice < ENTRIES(past) && past[choice] >= places ? past[choice] : places + chance_below(65536 - places);
+}
+
+/* Another size than 9 x places: near it, of other cells, or right only where a number is cut. The last the call
+   may not look at. */
+uint64_t wrong_page_size(const struct page *page)
+{
+    const uint64_t right = CELL_SIZE * page->places, shorter = chance_below(right);
+    const uint64_t near[] = {right - 1, right + 1, right - CELL_SIZE, right + CELL_SIZE};
+    const uint64_t other[] = {0, shorter, RECORD_SIZE * page->places, page->places, right + 65536, right + TWO_TO_32};
+    return chance_below(2) ? near[chance_below(ENTRIES(near))] : other[chance_below(ENTRIES(other))];
+}

@@ -1,0 +1,233 @@
+/* How many comparisons of each kind there were with the calls of the page. A kind is told from what the program's own
+   rules made of a case, not from how it was drawn. The program ends with an error of its own if there are too few of
+   one, so that the comparison cannot become empty. See docs/RULES.md, "The page" and "Refusal numbers". */
+
+#include "lent.h"
+#include "page_kinds.h"
+
+#include <stdio.h>
+
+/* The second is wanted for each shell, for each state and for large numbers of places. */
+enum { LEAST = 300, LEAST_OF_EACH = 100, RECORD_LENGTHS = MOST_TAKEN + 1 };
+
+/* What a kind is wanted for, as the bits of a set. */
+enum { T = 1 << TAKE, C = 1 << COLLECT, R = 1 << READ, K = 1 << COEFFICIENT, Y = 1 << TALLY, S = 1 << STORED };
+enum { RK = R | K, TRK = T | RK, TRKY = TRK | Y, TCRKY = TRKY | C, TRKYS = TRKY | S };
+
+static const char *const calls[COUNTED_FOR] = {
+    [TAKE] = "takes",
+    [COLLECT] = "runs",
+    [READ] = "readings of a place",
+    [COEFFICIENT] = "coefficients",
+    [TALLY] = "tallies",
+    [STORED] = "stored records",
+};
+
+static const struct {
+    uint32_t wanted_for;
+    const char *what;
+} names[PAGE_KINDS] = {
+    [CELL_SOUND] = {TRKYS, "with a sound cell"},
+    [CELL_MENDED] = {TRKYS, "with a mended cell"},
+    [CELL_9] = {TRKYS, "with a cell that only has another row"},
+    [CELL_9_AND_10] = {TRKYS, "with a cell of another row and no radius number of the row"},
+    [CELL_9_AND_14] = {TRKYS, "with a cell of another row and a codeword of 2^b or more"},
+    [CELL_10_AT_NUMBER] = {TRKYS, "with a radius number that is the number of radii"},
+    [CELL_10_AND_0] = {TRKYS, "with a radius number below 8 that is not in the row, and codeword 0"},
+    [CELL_10_FROM_8] = {TRKYS, "with a radius number of 8 or more"},
+    [CELL_14] = {TRKYS, "with only a codeword of 2^b or more"},
+    [CODEWORD_0] = {TRKYS, "with codeword 0 and N above 1"},
+    [CODEWORD_BEFORE_N] = {TRKYS, "with codeword N - 1 and N no power of two"},
+    [CODEWORD_N] = {TRKYS, "with codeword N to be mended"},
+    [CODEWORD_PAST_N] = {TRKYS, "with codeword N + 1 to be mended"},
+    [CODEWORD_BEFORE_POWER] = {TRKYS, "with codeword 2^b - 1 to be mended"},
+    [CODEWORD_POWER] = {TRKYS, "with codeword 2^b"},
+    [CODEWORD_LARGEST] = {TRKYS, "with codeword 2^32 - 1 and b below 32"},
+    [WIDTH_0_SOUND] = {TRKYS, "with codeword 0 and b = 0"},
+    [WIDTH_0_14] = {TRKYS, "with codeword 1 and b = 0"},
+    [WIDTH_32_SOUND] = {TRKYS, "with a sound cell and b = 32"},
+    [WIDTH_32_MENDED] = {TRKYS, "with a mended cell and b = 32"},
+    [POWER_SOUND] = {TRKYS, "with codeword N - 1 and N a power of two above 1"},
+    [POWER_14] = {TRKYS, "with codeword N and N a power of two above 1"},
+    [EMPTY_ZEROS] = {TRKY, "with an empty cell of zeros"},
+    [EMPTY_GARBAGE] = {TRKY, "with an empty cell that has other bytes"},
+    [CONTESTED_ZEROS] = {TRKY, "with a contested cell of zeros"},
+    [CONTESTED_GARBAGE] = {TRKY, "with a contested cell that has other bytes"},
+    [FAULT_STATE] = {TRKY, "with a state above 2"},
+    [FAULT_HIGH] = {TRKY, "with a held place number whose high byte alone differs"},
+    [FAULT_LOW] = {TRKY, "with a held place number whose low byte alone differs"},
+    [FAULT_BOTH] = {TRKY, "with a held place number that differs in both bytes"},
+    [AT_PLACE_0] = {TRK, "at place 0, answered"},
+    [AT_LAST_PLACE] = {TRK, "at the last place, answered"},
+    [AT_PAST_255] = {TRK, "at a place above 255, answered"},
+    [OF_1_PLACE] = {TRKY, "of a table of one place, answered"},
+    [OF_4096_PLACES] = {TRKY, "of a table of 4,096 places, answered"},
+    [BESIDE_FAULT] = {TRK, "answered while place 0, another one, is at fault"},
+    [FAULT_BESIDE_GOOD] = {TRK, "refused with 12 while place 0, another one, is not at fault"},
+    [SAME_STAYS] = {T, "of the same eight bytes as are held"},
+    [OTHER_IN_SEVERAL] = {T, "that differ from what is held in several bytes"},
+    [FAULT_SAME_REST] = {T, "refused with 12 that differ from what is held in the place number alone"},
+    [ANSWERED] = {TRKY, "that are not refused"},
+    [REFUSED_7] = {TCRKY, "refused with 7"},
+    [REFUSED_4] = {TCRKY, "refused with 4"},
+    [REFUSED_8] = {TRK, "refused with 8"},
+    [REFUSED_12] = {TRKY, "refused with 12"},
+    [REFUSED_13] = {K, "refused with 13"},
+    [ROW_0_NAMED] = {TRKY, "refused with 7 and row 0"},
+    [ROW_ABOVE_0_NAMED] = {TRKY, "refused with 7 and a row above 0"},
+    [PAGE_SHORT_1] = {TCRKY, "refused with 4 for a page that is a byte too short"},
+    [PAGE_LONG_1] = {TCRKY, "refused with 4 for a page that is a byte too long"},
+    [PAGE_SHORT_9] = {TCRKY, "refused with 4 for a page that is a cell too short"},
+    [PAGE_LONG_9] = {TCRKY, "refused with 4 for a page that is a cell too long"},
+    [NO_PAGE] = {TCRKY, "refused with 4 for a page of no bytes"},
+    [PAGE_CUT] = {TCRKY, "refused with 4 for a page that is right only where its size is cut"},
+    [OTHER_LENGTH] = {T | R, "refused with 4 for the record, or the output, alone"},
+    [BOTH_LENGTHS] = {T | R, "refused with 4 for the page and for the record, or the output"},
+    [AT_END] = {TRK, "refused with 8 at the number of places"},
+    [FAR_PAST] = {RK, "refused with 8 at 2^63 or more"},
+    [CUT_PLACE] = {TRK, "refused with 8 at what is in the table where it is cut"},
+    [PAST_BESIDE_FAULT] = {TRK, "refused with 8 while place 0 is at fault"},
+    [COORDINATE_LENGTH] = {K, "refused with 13 at the length"},
+    [COORDINATE_FAR] = {K, "refused with 13 at 2^32 or more"},
+    [EMPTY_13] = {K, "refused with 13 at a missing place"},
+    [CONTESTED_13] = {K, "refused with 13 at a contested place"},
+    [HELD_13] = {K, "refused with 13 at a held place"},
+    [BOTH_7_AND_4] = {TRKY, "with a bad table and a page that is right for none"},
+    [BOTH_7_AND_8] = {TRK, "with a bad table and a place above 4,095"},
+    [BOTH_7_AND_13] = {K, "with a bad table and a coordinate above 15"},
+    [BOTH_4_AND_8] = {TRK, "with a wrong length and a place that is not in the table"},
+    [BOTH_4_AND_12] = {TRKY, "with a wrong length and a cell at fault"},
+    [BOTH_4_AND_13] = {K, "with a wrong length and a coordinate of the length or more"},
+    [BOTH_8_AND_13] = {K, "with a place that is not in the table and a coordinate above 15"},
+    [BOTH_12_AND_13] = {K, "with a cell at fault and a coordinate of the length or more"},
+    [VALUE_POSITIVE] = {K, "with a value above 0"},
+    [VALUE_NEGATIVE] = {K, "with a value below 0"},
+    [VALUE_ZERO_SOUND] = {K, "that are sound with 0 in a shell of radius above 0"},
+    [VALUE_ZERO_MENDED] = {K, "that are mended with 0"},
+    [VALUE_NOT_WHOLE] = {K, "with a value that is no whole number"},
+    [VALUE_PAST_4096] = {K, "with a value of magnitude 4,096 or more"},
+    [VALUE_LAST] = {K, "with a value at the last coordinate of several"},
+    [RUN_OF_NONE] = {C, "of no bytes"},
+    [RUN_OF_ONE_PART] = {C, "of one part"},
+    [RUN_TAKEN] = {C, "of several parts that are all taken"},
+    [RUN_REFUSED] = {C, "of several parts that are all refused, with a good table and page"},
+    [RUN_MIXED] = {C, "of parts some of which are refused"},
+    [RUN_TAKEN_AFTER_REFUSED] = {C, "in which a part is taken after a refused one"},
+    [RUN_REPEATS] = {C, "with a record twice"},
+    [RUN_PERMUTED] = {C, "in another order too"},
+    [FAULT_AT_FIRST] = {Y, "refused with 12 at place 0"},
+    [FAULT_AT_LAST] = {Y, "refused with 12 at the last place of several"},
+    [FAULTS_SEVERAL] = {Y, "refused with 12 for several places"},
+};
+
+static const char *const words[READINGS] = {"sound", "mended", "missing", "contested", "unreadable"};
+
+static uint64_t kinds[COUNTED_FOR][PAGE_KINDS], faults[COUNTED_FOR][FAULTS], states[COUNTED_FOR][256];
+static uint64_t other_bytes[RECORD_SIZE], record_lengths[RECORD_LENGTHS], remainders[RECORD_SIZE];
+static uint64_t shells[COUNTED_FOR][READINGS][MOST_LENGTH + 1][MOST_RADIUS + 1];
+static uint64_t tallied[READINGS], tallied_past_255[READINGS], tallied_alone[READINGS];
+
+void note_page(enum page_call call, enum page_kind kind, int is_there)
+{
+    kinds[call][kind] += is_there != 0;
+}
+
+void note_fault(enum page_call call, enum fault fault)
+{
+    faults[call][fault]++;
+}
+
+void note_state(enum page_call call, uint8_t state)
+{
+    states[call][state]++;
+}
+
+/* The one byte in which a record differs from what is held. */
+void note_other_byte(uint64_t byte)
+{
+    other_bytes[byte]++;
+}
+
+void note_record_length(uint64_t length)
+{
+    if (length < RECORD_LENGTHS)
+        record_lengths[length]++;
+}
+
+void note_remainder(uint64_t length)
+{
+    remainders[length % RECORD_SIZE]++;
+}
+
+/* Unreadable stands for 14 alone. */
+static uint64_t *seen(enum page_call call, enum reading_word word, struct shell shell)
+{
+    return &shells[call][word][shell.length][shell.radius];
+}
+
+void note_shell(enum page_call call, enum reading_word word, struct shell shell)
+{
+    ++*seen(call, word, shell);
+}
+
+void note_tallied(enum reading_word word, uint64_t counted, uint64_t places)
+{
+    tallied[word] += counted > 0;
+    tallied_past_255[word] += counted > 255;
+    tallied_alone[word] += counted == places && places > 1;
+}
+
+/* Every usable shell is read sound, mended where N is no power of two, and unreadable 14 where b is below 32. */
+static void require_readings(struct shell shell)
+{
+    const uint64_t n = points_of(shell), power = least_power_from(n);
+    for (enum page_call call = READ; call <= COEFFICIENT; call++) {
+        require_shell(*seen(call, SOUND, shell), LEAST_OF_EACH, "sound places", shell);
+        if (n < power)
+            require_shell(*seen(call, MENDED, shell), LEAST_OF_EACH, "mended places", shell);
+        if (power < TWO_TO_32)
+            require_shell(*seen(call, UNREADABLE, shell), LEAST_OF_EACH, "places unreadable 14", shell);
+    }
+}
+
+/* The numbers that are counted for one call alone. */
+static void require_numbers(enum page_call call)
+{
+    for (uint64_t i = AT_ROW; call == TAKE && i < RECORD_SIZE; i++)
+        require_number(other_bytes[i], LEAST, "takes of a record that differs from what is held only in byte", i);
+    for (uint64_t i = 0; call == TAKE && i < RECORD_LENGTHS; i++)
+        require_number(record_lengths[i], LEAST, "takes of a record of length", i);
+    for (uint64_t i = 0; call == COLLECT && i < RECORD_SIZE; i++)
+        require_number(remainders[i], LEAST, "runs whose last part has a length of, modulo 8,", i);
+    for (int word = 0; call == TALLY && word < READINGS; word++) {
+        require(tallied[word], LEAST, "tallies with places that are", words[word]);
+        require(tallied_past_255[word], LEAST_OF_EACH, "tallies with more than 255 places that are", words[word]);
+        require(tallied_alone[word], LEAST, "tallies of places that are all", words[word]);
+    }
+}
+
+/* Ends the program unless each kind that is wanted for a call, or for stored records, was compared often enough. */
+void require_page_kinds_of(enum page_call call, struct required *so_far)
+{
+    for (int kind = 0; kind < PAGE_KINDS; kind++)
+        if (names[kind].wanted_for >> call & 1) {
+            require(kinds[call][kind], LEAST, calls[call], names[kind].what);
+            so_far->least = kinds[call][kind] < so_far->least ? kinds[call][kind] : so_far->least;
+            so_far->kinds++;
+        }
+    for (uint64_t fault = 0; call != STORED && fault < FAULTS; fault++)
+        require_number(faults[call][fault], LEAST, "calls refused with 7 for the fault with number", fault);
+    for (uint64_t state = 0; call != STORED && call != COLLECT && state < 256; state++)
+        require_number(states[call][state], LEAST_OF_EACH, "cells of state", state);
+    require_numbers(call);
+}
+
+void require_page_kinds(void)
+{
+    struct required so_far = {0, UINT64_MAX};
+    for (enum page_call call = TAKE; call < COUNTED_FOR; call++)
+        require_page_kinds_of(call, &so_far);
+    for_each_usable_shell(require_readings);
+    printf("kinds of the page: %lu at least %lu times each, 407 shells at least %d times each\n", so_far.kinds, so_far.least,
+           LEAST_OF_EACH);
+}

@@ -1,0 +1,156 @@
+/* The kinds of comparisons of the page that are counted; page_kinds.c has a name for each, and the calls that it
+   is wanted for. */
+
+#ifndef SECOND_PAGE_KINDS_H
+#define SECOND_PAGE_KINDS_H
+
+#include "../rules/page.h"
+
+/* What a kind is counted for: the calls, and the records that take stores in an empty place. */
+enum page_call { TAKE, COLLECT, READ, COEFFICIENT, TALLY, PAGE_CALLS, STORED = PAGE_CALLS, COUNTED_FOR };
+
+enum page_kind {
+    /* what is held where the call looks */
+    CELL_SOUND,
+    CELL_MENDED,
+    CELL_9,
+    CELL_9_AND_10,
+    CELL_9_AND_14,
+    CELL_10_AT_NUMBER,
+    CELL_10_AND_0,
+    CELL_10_FROM_8,
+    CELL_14,
+    CODEWORD_0,
+    CODEWORD_BEFORE_N,
+    CODEWORD_N,
+    CODEWORD_PAST_N,
+    CODEWORD_BEFORE_POWER,
+    CODEWORD_POWER,
+    CODEWORD_LARGEST,
+    WIDTH_0_SOUND,
+    WIDTH_0_14,
+    WIDTH_32_SOUND,
+    WIDTH_32_MENDED,
+    POWER_SOUND,
+    POWER_14,
+    /* the other cells */
+    EMPTY_ZEROS,
+    EMPTY_GARBAGE,
+    CONTESTED_ZEROS,
+    CONTESTED_GARBAGE,
+    FAULT_STATE,
+    FAULT_HIGH,
+    FAULT_LOW,
+    FAULT_BOTH,
+    /* where it looks */
+    AT_PLACE_0,
+    AT_LAST_PLACE,
+    AT_PAST_255,
+    OF_1_PLACE,
+    OF_4096_PLACES,
+    BESIDE_FAULT,
+    FAULT_BESIDE_GOOD,
+    /* what take does */
+    SAME_STAYS,
+    OTHER_IN_SEVERAL,
+    FAULT_SAME_REST,
+    /* refusals */
+    ANSWERED,
+    REFUSED_7,
+    REFUSED_4,
+    REFUSED_8,
+    REFUSED_12,
+    REFUSED_13,
+    ROW_0_NAMED,
+    ROW_ABOVE_0_NAMED,
+    PAGE_SHORT_1,
+    PAGE_LONG_1,
+    PAGE_SHORT_9,
+    PAGE_LONG_9,
+    NO_PAGE,
+    PAGE_CUT,
+    OTHER_LENGTH,
+    BOTH_LENGTHS,
+    AT_END,
+    FAR_PAST,
+    CUT_PLACE,
+    PAST_BESIDE_FAULT,
+    COORDINATE_LENGTH,
+    COORDINATE_FAR,
+    EMPTY_13,
+    CONTESTED_13,
+    HELD_13,
+    /* two reasons for a refusal */
+    BOTH_7_AND_4,
+    BOTH_7_AND_8,
+    BOTH_7_AND_13,
+    BOTH_4_AND_8,
+    BOTH_4_AND_12,
+    BOTH_4_AND_13,
+    BOTH_8_AND_13,
+    BOTH_12_AND_13,
+    /* the value of a coefficient */
+    VALUE_POSITIVE,
+    VALUE_NEGATIVE,
+    VALUE_ZERO_SOUND,
+    VALUE_ZERO_MENDED,
+    VALUE_NOT_WHOLE,
+    VALUE_PAST_4096,
+    VALUE_LAST,
+    /* runs */
+    RUN_OF_NONE,
+    RUN_OF_ONE_PART,
+    RUN_TAKEN,
+    RUN_REFUSED,
+    RUN_MIXED,
+    RUN_TAKEN_AFTER_REFUSED,
+    RUN_REPEATS,
+    RUN_PERMUTED,
+    /* tallies */
+    FAULT_AT_FIRST,
+    FAULT_AT_LAST,
+    FAULTS_SEVERAL,
+    PAGE_KINDS
+};
+
+/* The reasons that there are to refuse a call, whichever comes first. */
+struct reasons {
+    int is_4;
+    int is_8;
+    int is_12;
+    int is_13;
+};
+
+/* How many kinds were required, and how often the rarest of them was compared. */
+struct required {
+    uint64_t kinds;
+    uint64_t least;
+};
+
+/* page_kinds.c */
+void note_page(enum page_call call, enum page_kind kind, int is_there);
+void note_fault(enum page_call call, enum fault fault);
+void note_state(enum page_call call, uint8_t state);
+void note_other_byte(uint64_t byte);
+void note_record_length(uint64_t length);
+void note_remainder(uint64_t length);
+void note_shell(enum page_call call, enum reading_word word, struct shell shell);
+void note_tallied(enum reading_word word, uint64_t counted, uint64_t places);
+void require_page_kinds_of(enum page_call call, struct required *so_far);
+void require_page_kinds(void);
+
+/* page_notes.c: what the cells and the refusals tell */
+void note_cell(enum page_call call, const struct table *table, uint64_t place, const uint8_t *cell);
+void note_where(enum page_call call, const struct page *page, uint64_t place, struct list expected);
+void note_refusal(enum page_call call, const struct table *table, const struct page *page, uint64_t place, struct list expected);
+void note_both(enum page_call call, struct reasons reasons);
+
+/* call_notes.c: what one comparison of each call tells */
+void note_take(const struct table *table, const struct page *page, const struct arrival *arrival, const uint8_t *before,
+               struct list expected);
+void note_run(const struct table *table, const struct page *page, const struct arrival *run, uint64_t refusals);
+void note_reading(enum page_call call, const struct question *question, struct list expected);
+void note_value(const struct question *question, struct list expected, uint32_t bits);
+void note_tally(const struct table *table, const struct page *page, struct list expected);
+
+#endif

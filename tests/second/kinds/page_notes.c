@@ -1,0 +1,153 @@
+/* The kinds of comparisons of the page that the cell, the place and the refusal tell. See docs/RULES.md, "The page" and
+   "Refusal numbers". */
+
+#include "page_kinds.h"
+
+#include <string.h>
+
+/* A codeword in the row and with the radius number that it belongs to. */
+static void note_codeword(enum page_call call, struct shell shell, uint64_t codeword)
+{
+    const uint64_t n = points_of(shell), power = least_power_from(n);
+    const int is_sound = codeword < n, is_mended = !is_sound && codeword < power, is_power = n == power;
+    note_shell(call, is_sound ? SOUND : is_mended ? MENDED : UNREADABLE, shell);
+    note_page(call, CELL_SOUND, is_sound);
+    note_page(call, CELL_MENDED, is_mended);
+    note_page(call, CELL_14, codeword >= power);
+    note_page(call, CODEWORD_0, codeword == 0 && n > 1);
+    note_page(call, CODEWORD_BEFORE_N, codeword == n - 1 && !is_power);
+    note_page(call, CODEWORD_N, codeword == n && is_mended);
+    note_page(call, CODEWORD_PAST_N, codeword == n + 1 && is_mended);
+    note_page(call, CODEWORD_BEFORE_POWER, codeword == power - 1 && is_mended);
+    note_page(call, CODEWORD_POWER, codeword == power);
+    note_page(call, CODEWORD_LARGEST, codeword == TWO_TO_32 - 1 && power < TWO_TO_32);
+    note_page(call, WIDTH_0_SOUND, codeword == 0 && power == 1);
+    note_page(call, WIDTH_0_14, codeword == 1 && power == 1);
+    note_page(call, WIDTH_32_SOUND, is_sound && power == TWO_TO_32);
+    note_page(call, WIDTH_32_MENDED, is_mended && power == TWO_TO_32);
+    note_page(call, POWER_SOUND, codeword == n - 1 && is_power && n > 1);
+    note_page(call, POWER_14, codeword == n && is_power && n > 1);
+}
+
+static void note_held(enum page_call call, const struct table *table, uint64_t place, const uint8_t *record)
+{
+    const uint64_t codeword = codeword_of(record), radius_number = record[AT_RADIUS_NUMBER];
+    const uint8_t *row = row_at(table, place);
+    const int is_9 = record[AT_ROW] != row_of(table, place);
+    if (radius_number >= row[AT_NUMBER_OF_RADII]) {
+        note_page(call, CELL_9_AND_10, is_9);
+        note_page(call, CELL_10_AT_NUMBER, !is_9 && radius_number == row[AT_NUMBER_OF_RADII]);
+        note_page(call, CELL_10_AND_0, !is_9 && radius_number < MOST_RADII && codeword == 0);
+        note_page(call, CELL_10_FROM_8, !is_9 && radius_number >= MOST_RADII);
+        return;
+    }
+    const struct shell shell = {row[AT_LENGTH], row[AT_RADII + radius_number]};
+    note_page(call, CELL_9, is_9 && codeword < points_of(shell));
+    note_page(call, CELL_9_AND_14, is_9 && codeword >= least_power_from(points_of(shell)));
+    if (!is_9)
+        note_codeword(call, shell, codeword);
+}
+
+/* A cell that the call looks at. */
+void note_cell(enum page_call call, const struct table *table, uint64_t place, const uint8_t *cell)
+{
+    const uint8_t *record = cell + AT_RECORD, zeros[RECORD_SIZE] = {0}, state = cell[AT_STATE];
+    const int is_zeros = memcmp(record, zeros, RECORD_SIZE) == 0;
+    note_state(call, state);
+    note_page(call, EMPTY_ZEROS, state == STATE_EMPTY && is_zeros);
+    note_page(call, EMPTY_GARBAGE, state == STATE_EMPTY && !is_zeros);
+    note_page(call, CONTESTED_ZEROS, state == STATE_CONTESTED && is_zeros);
+    note_page(call, CONTESTED_GARBAGE, state == STATE_CONTESTED && !is_zeros);
+    note_page(call, FAULT_STATE, state > STATE_CONTESTED);
+    if (state != STATE_HELD)
+        return;
+    const uint64_t changed = two_bytes(record + AT_PLACE) ^ place, high = changed / 256, low = changed % 256;
+    note_page(call, FAULT_HIGH, high != 0 && low == 0);
+    note_page(call, FAULT_LOW, high == 0 && low != 0);
+    note_page(call, FAULT_BOTH, high != 0 && low != 0);
+    if (changed == 0)
+        note_held(call, table, place, record);
+}
+
+/* Where a call looks that is answered, or refused with 12. */
+void note_where(enum page_call call, const struct page *page, uint64_t place, struct list expected)
+{
+    const int is_beside_0 = place > 0, is_0_at_fault = is_at_fault(cell_at(page, 0), 0);
+    if (expected.items[0] == 12) {
+        note_page(call, FAULT_BESIDE_GOOD, is_beside_0 && !is_0_at_fault);
+        return;
+    }
+    note_page(call, BESIDE_FAULT, is_beside_0 && is_0_at_fault);
+    note_page(call, AT_PLACE_0, place == 0);
+    note_page(call, AT_LAST_PLACE, is_beside_0 && place == page->places - 1);
+    note_page(call, AT_PAST_255, place > 255);
+    note_page(call, OF_1_PLACE, page->places == 1);
+    note_page(call, OF_4096_PLACES, page->places == MOST_PLACES);
+}
+
+/* Refusal 7. Where the table is bad, a page of part of a cell, or of none, is wrong too, and so is a
+   place above 4,095. */
+static void note_bad_table(enum page_call call, const struct table *table, const struct page *page, uint64_t place)
+{
+    const struct judgment judgment = judge(table->bytes, table->size);
+    for (enum fault fault = 0; fault < FAULTS; fault++)
+        if (judgment.faults >> fault & 1)
+            note_fault(call, fault);
+    note_page(call, ROW_0_NAMED, judgment.row == 0);
+    note_page(call, ROW_ABOVE_0_NAMED, judgment.row > 0);
+    note_page(call, BOTH_7_AND_4, page->size == 0 || page->size % CELL_SIZE != 0);
+    note_page(call, BOTH_7_AND_8, place >= MOST_PLACES);
+}
+
+/* Refusal 4, as far as it is for the page. */
+static void note_page_size(enum page_call call, const struct page *page)
+{
+    const uint64_t right = CELL_SIZE * page->places;
+    note_page(call, PAGE_SHORT_1, page->size == right - 1);
+    note_page(call, PAGE_LONG_1, page->size == right + 1);
+    note_page(call, PAGE_SHORT_9, page->size == right - CELL_SIZE && page->size > 0);
+    note_page(call, PAGE_LONG_9, page->size == right + CELL_SIZE);
+    note_page(call, NO_PAGE, page->size == 0);
+    note_page(call, PAGE_CUT, page->size == right + 65536 || page->size == right + TWO_TO_32);
+}
+
+/* Refusal 8. */
+static void note_outside(enum page_call call, const struct page *page, uint64_t place)
+{
+    const uint64_t cuts[] = {256, MOST_PLACES, 65536, TWO_TO_32};
+    int is_cut = 0;
+    for (uint64_t i = 0; i < ENTRIES(cuts); i++)
+        is_cut |= place % cuts[i] < page->places;
+    note_page(call, AT_END, place == page->places);
+    note_page(call, FAR_PAST, place >= TWO_TO_63);
+    note_page(call, CUT_PLACE, is_cut);
+    note_page(call, PAST_BESIDE_FAULT, is_at_fault(cell_at(page, 0), 0));
+}
+
+/* What a call with a place answers by number, and what is behind it. */
+void note_refusal(enum page_call call, const struct table *table, const struct page *page, uint64_t place, struct list expected)
+{
+    const uint64_t refusal = expected.items[0];
+    note_page(call, ANSWERED, refusal == 0);
+    note_page(call, REFUSED_7, refusal == 7);
+    note_page(call, REFUSED_4, refusal == 4);
+    note_page(call, REFUSED_8, refusal == 8);
+    note_page(call, REFUSED_12, refusal == 12);
+    note_page(call, REFUSED_13, refusal == 13);
+    if (refusal == 7)
+        note_bad_table(call, table, page, place);
+    if (refusal == 4)
+        note_page_size(call, page);
+    if (refusal == 8)
+        note_outside(call, page, place);
+}
+
+/* Two reasons for a refusal at once, with a good table. */
+void note_both(enum page_call call, struct reasons reasons)
+{
+    note_page(call, BOTH_4_AND_8, reasons.is_4 && reasons.is_8);
+    note_page(call, BOTH_4_AND_12, reasons.is_4 && reasons.is_12);
+    note_page(call, BOTH_4_AND_13, reasons.is_4 && reasons.is_13);
+    note_page(call, BOTH_8_AND_13, reasons.is_8 && reasons.is_13);
+    note_page(call, BOTH_12_AND_13, reasons.is_12 && reasons.is_13);
+}

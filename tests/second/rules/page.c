@@ -1,0 +1,205 @@
+/* The page, by rules of the program's own: what take, collect, read, coefficient and the tally must answer, and what
+   take makes of a cell. See docs/RULES.md, "The page", "Refusal numbers" and "Order of checks". */
+
+#include "page.h"
+
+#include <string.h>
+
+static struct list refused(uint64_t refusal, uint64_t named)
+{
+    return (struct list){{refusal, named}};
+}
+
+uint64_t codeword_of(const uint8_t *record)
+{
+    return two_bytes(record + AT_CODEWORD) * 65536 + two_bytes(record + AT_CODEWORD + 2);
+}
+
+/* 2^b for N: "the least number of bits with 2^b at least T. The widths of 0 and of 1 are 0.". */
+uint64_t least_power_from(uint64_t n)
+{
+    uint64_t power = 1;
+    while (power < n)
+        power *= 2;
+    return power;
+}
+
+/* 12: "if its state is above 2, or if it is held with a record of another place". */
+int is_at_fault(const uint8_t *cell, uint64_t place)
+{
+    if (cell[AT_STATE] == STATE_HELD)
+        return two_bytes(cell + AT_RECORD + AT_PLACE) != place;
+    return cell[AT_STATE] > STATE_CONTESTED;
+}
+
+static struct reading unreadable(uint64_t reason)
+{
+    return (struct reading){.word = UNREADABLE, .reason = reason};
+}
+
+/* The held record of a place, its fields judged in the order of the rules. */
+static struct reading read_record(const struct table *table, uint64_t place, const uint8_t *record)
+{
+    const uint64_t codeword = codeword_of(record);
+    const uint8_t *row = row_at(table, place);
+    if (record[AT_ROW] != row_of(table, place))
+        return unreadable(9);
+    if (record[AT_RADIUS_NUMBER] >= row[AT_NUMBER_OF_RADII])
+        return unreadable(10);
+    const struct shell shell = {row[AT_LENGTH], row[AT_RADII + record[AT_RADIUS_NUMBER]]};
+    const uint64_t n = points_of(shell), power = least_power_from(n);
+    if (codeword >= power)
+        return unreadable(14);
+    if (codeword < n)
+        return (struct reading){.word = SOUND, .shell = shell, .index = codeword};
+    if (codeword - power / 2 >= n)
+        own_error("a mended index is N or more", shell);
+    return (struct reading){.word = MENDED, .shell = shell, .index = codeword - power / 2};
+}
+
+/* A cell that is not at fault. */
+struct reading read_cell(const struct table *table, uint64_t place, const uint8_t *cell)
+{
+    if (cell[AT_STATE] == STATE_EMPTY)
+        return (struct reading){.word = MISSING};
+    if (cell[AT_STATE] == STATE_CONTESTED)
+        return (struct reading){.word = CONTESTED};
+    return read_record(table, place, cell + AT_RECORD);
+}
+
+/* "The cell of that place then goes by the page rule" */
+static void claim(uint8_t *cell, const uint8_t *record)
+{
+    const int is_same = memcmp(cell + AT_RECORD, record, RECORD_SIZE) == 0;
+    if (cell[AT_STATE] == STATE_CONTESTED || (cell[AT_STATE] == STATE_HELD && is_same))
+        return;
+    const int is_other = cell[AT_STATE] == STATE_HELD;
+    cell[AT_STATE] = is_other ? STATE_CONTESTED : STATE_HELD;
+    for (uint64_t i = 0; i < RECORD_SIZE; i++)
+        cell[AT_RECORD + i] = is_other ? 0 : record[i];
+}
+
+/* "take | 7, 4, 8, 12". */
+struct list take(const struct table *table, struct page *page, const struct arrival *arrival)
+{
+    const struct judgment judgment = judge(table->bytes, table->size);
+    if (judgment.faults)
+        return refused(7, judgment.row);
+    if (page->size != CELL_SIZE * judgment.places || arrival->length != RECORD_SIZE)
+        return refused(4, 0);
+    const uint64_t place = two_bytes(arrival->bytes + AT_PLACE);
+    if (place >= judgment.places)
+        return refused(8, 0);
+    uint8_t *cell = page->own + GUARDS + CELL_SIZE * place;
+    if (is_at_fault(cell, place))
+        return refused(12, 0);
+    claim(cell, arrival->bytes);
+    return refused(0, 0);
+}
+
+/* "each 8 bytes in turn as a record, and a shorter last part too"; how many of these takes are refused. */
+uint64_t collect_bytes(const struct table *table, struct page *page, const uint8_t *bytes, uint64_t size)
+{
+    uint64_t refusals = 0;
+    for (uint64_t at = 0; at < size; at += RECORD_SIZE) {
+        const uint64_t left = size - at;
+        struct arrival part = {.length = left < RECORD_SIZE ? left : RECORD_SIZE};
+        for (uint64_t i = 0; i < part.length; i++)
+            part.bytes[i] = bytes[at + i];
+        refusals += take(table, page, &part).items[0] != 0;
+    }
+    return refusals;
+}
+
+uint64_t collect(const struct table *table, struct page *page, const struct arrival *run)
+{
+    return collect_bytes(table, page, run->bytes, run->length);
+}
+
+/* The first three checks of read and of coefficient, which begin alike: "7, 8, 4". The output of
+   coefficient is none. */
+static struct list checked(const struct question *question, int has_output)
+{
+    const struct judgment judgment = judge(question->table->bytes, question->table->size);
+    if (judgment.faults)
+        return refused(7, judgment.row);
+    if (question->place >= judgment.places)
+        return refused(8, 0);
+    const uint64_t length = row_at(question->table, question->place)[AT_LENGTH];
+    if (question->page->size != CELL_SIZE * judgment.places || (has_output && question->number != length))
+        return refused(4, 0);
+    return refused(0, 0);
+}
+
+/* "what is written" */
+static void write_point(struct reading reading, int32_t *point)
+{
+    for (int i = 0; i < MOST_LENGTH; i++)
+        point[i] = 0;
+    if (reading.word == SOUND || reading.word == MENDED)
+        point_of(reading.shell, reading.index, point);
+}
+
+/* 12, or how the cell of a place is read; its point is written, whatever it is. */
+static struct list looked_at(const struct question *question, int32_t *point)
+{
+    const uint8_t *cell = cell_at(question->page, question->place);
+    if (is_at_fault(cell, question->place))
+        return refused(12, 0);
+    const struct reading reading = read_cell(question->table, question->place, cell);
+    write_point(reading, point);
+    return (struct list){{0, reading.word, reading.reason}};
+}
+
+/* "read | 7, 8, 4, 12". On a refusal nothing is said of the point. */
+struct list read_place(const struct question *question, int32_t *point)
+{
+    const struct list list = checked(question, 1);
+    return list.items[0] != 0 ? list : looked_at(question, point);
+}
+
+/* "coordinate x step / 256, as an f32. The value is exact, and a zero is positive zero": its bits, which
+   must lead back. */
+static uint32_t value_of(int32_t coordinate, uint64_t step)
+{
+    const uint64_t product = magnitude(coordinate) * step;
+    const uint32_t bits = bits_of(product, 8) | (coordinate < 0 ? NEGATIVE : 0);
+    const struct rounding back = nearest(bits);
+    own_figure("256 times a value", back.whole, product);
+    own_figure("way to 256 times a value", back.way, EXACT);
+    return bits;
+}
+
+/* "coefficient | 7, 8, 4, 13, 12". The bits of the value are 0 where there is none. */
+struct list coefficient(const struct question *question, uint32_t *bits)
+{
+    int32_t point[MOST_LENGTH];
+    const struct list list = checked(question, 0);
+    *bits = 0;
+    if (list.items[0] != 0)
+        return list;
+    const uint8_t *row = row_at(question->table, question->place);
+    if (question->number >= row[AT_LENGTH])
+        return refused(13, 0);
+    const struct list answer = looked_at(question, point);
+    if (answer.items[0] == 0)
+        *bits = value_of(point[question->number], two_bytes(row + AT_STEP));
+    return answer;
+}
+
+/* "tally | 7, 4, 12"; "the lowest such place". */
+struct list tally(const struct table *table, const struct page *page)
+{
+    struct list list = {{0}};
+    const struct judgment judgment = judge(table->bytes, table->size);
+    if (judgment.faults)
+        return refused(7, judgment.row);
+    if (page->size != CELL_SIZE * judgment.places)
+        return refused(4, 0);
+    for (uint64_t place = 0; place < judgment.places; place++) {
+        if (is_at_fault(cell_at(page, place), place))
+            return refused(12, place);
+        list.items[1 + read_cell(table, place, cell_at(page, place)).word]++;
+    }
+    return list;
+}

@@ -1,0 +1,82 @@
+/* The rules of the page: what the calls of the page must answer, and what take makes of a cell;
+   docs/RULES.md, "The page". */
+
+#ifndef SECOND_PAGE_H
+#define SECOND_PAGE_H
+
+#include "rules.h"
+
+enum {
+    CELL_SIZE = 9,
+    GUARDS = 8,       /* how many guards lie before what a call is lent, and how many behind it */
+    CELLS_BEHIND = 2, /* cells that lie behind a page, so that it can be lent too long */
+    PAGE_ROOM = GUARDS + CELL_SIZE * (MOST_PLACES + CELLS_BEHIND) + GUARDS,
+    MOST_TAKEN = 17,    /* the bytes of the longest record that is lent, but for those right where a number is cut */
+    MOST_OUTPUT = 20,   /* the numbers of the longest output that is lent, but for the same */
+    MOST_RUN = 200,     /* the bytes of the longest run, but for the long ones */
+    MOST_ARRIVAL = 208, /* the room for what arrives */
+    ITEMS = 6           /* the most items of a list that a call answers */
+};
+
+/* Where the fields of a cell begin, and its states. */
+enum { AT_STATE = 0, AT_RECORD = 1 };
+enum { STATE_EMPTY = 0, STATE_HELD = 1, STATE_CONTESTED = 2 };
+
+/* The five answers. */
+enum reading_word { SOUND, MENDED, MISSING, CONTESTED, UNREADABLE, READINGS };
+
+/* A page in three copies: what it must hold, and two that the calls are lent. Each begins behind the guards. */
+struct page {
+    uint64_t places; /* how many cells are filled */
+    uint64_t size;   /* in bytes, as the calls are told it; it may be any number */
+    uint8_t own[PAGE_ROOM];
+    uint8_t lent[2][PAGE_ROOM];
+};
+
+/* What arrives: a record for take, a run of bytes for collect. The length may be any number. */
+struct arrival {
+    uint64_t length;
+    uint8_t bytes[MOST_ARRIVAL];
+};
+
+/* What read or coefficient is asked. */
+struct question {
+    const struct table *table;
+    const struct page *page;
+    uint64_t place;
+    uint64_t number; /* read: the length of the output; coefficient: the coordinate */
+};
+
+/* The list that a call answers; zeros follow it. */
+struct list {
+    uint64_t items[ITEMS];
+};
+
+/* How a cell is read. */
+struct reading {
+    enum reading_word word;
+    uint64_t reason;    /* of an unreadable one, else 0 */
+    struct shell shell; /* of a sound or mended one, and the index in it */
+    uint64_t index;
+};
+
+/* copies.c: a page in three copies */
+uint64_t room_used(const struct page *page);
+void begin_page(struct page *page, uint64_t places);
+void copy_page(struct page *to, const struct page *from);
+void set_cell(struct page *page, uint64_t place, const uint8_t *cell);
+const uint8_t *cell_at(const struct page *page, uint64_t place);
+
+/* page.c: what the calls must answer, and make of a page */
+uint64_t codeword_of(const uint8_t *record);
+uint64_t least_power_from(uint64_t n);
+int is_at_fault(const uint8_t *cell, uint64_t place);
+struct reading read_cell(const struct table *table, uint64_t place, const uint8_t *cell);
+struct list take(const struct table *table, struct page *page, const struct arrival *arrival);
+uint64_t collect_bytes(const struct table *table, struct page *page, const uint8_t *bytes, uint64_t size);
+uint64_t collect(const struct table *table, struct page *page, const struct arrival *run);
+struct list read_place(const struct question *question, int32_t *point);
+struct list coefficient(const struct question *question, uint32_t *bits);
+struct list tally(const struct table *table, const struct page *page);
+
+#endif
