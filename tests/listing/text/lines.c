@@ -12,7 +12,7 @@ static const char *const words[READINGS] = {
     [UNREADABLE] = "unreadable",
 };
 
-/* "what is written" */
+/* The column "what is written" under "Reading a place". */
 void point_shown(struct reading reading, int32_t *point)
 {
     for (int i = 0; i < MOST_LENGTH; i++)

@@ -31,8 +31,7 @@ static uint64_t tally_of(const struct case_of_page *of)
     return compare_tally(&of->table, &page).items[0];
 }
 
-/* "take | 7, 4, 8, 12" Take is last: it
-   may change the page. */
+/* The order of each call, as "take | 7, 4, 8, 12". Take is last: it may change the page. */
 static void compare_set(const struct case_of_page *wrong, int set)
 {
     const uint64_t cell = set & WRONG_CELL ? 12 : 0, cell_or_13 = set & WRONG_COORDINATE ? 13 : cell;

@@ -15,7 +15,7 @@ uint64_t codeword_of(const uint8_t *record)
     return two_bytes(record + AT_CODEWORD) * 65536 + two_bytes(record + AT_CODEWORD + 2);
 }
 
-/* 2^b for N: "the least number of bits with 2^b at least T. The widths of 0 and of 1 are 0.". */
+/* 2^b for N: "the least number of bits with 2^b at least T. The widths of 0 and of 1 are 0." */
 uint64_t least_power_from(uint64_t n)
 {
     uint64_t power = 1;
@@ -67,7 +67,7 @@ struct reading read_cell(const struct table *table, uint64_t place, const uint8_
     return read_record(table, place, cell + AT_RECORD);
 }
 
-/* "The cell of that place then goes by the page rule" */
+/* The page rule: "The cell of that place then goes by the page rule". */
 static void claim(uint8_t *cell, const uint8_t *record)
 {
     const int is_same = memcmp(cell + AT_RECORD, record, RECORD_SIZE) == 0;
@@ -131,7 +131,7 @@ static struct list checked(const struct question *question, int has_output)
     return refused(0, 0);
 }
 
-/* "what is written" */
+/* The column "what is written" under "Reading a place". */
 static void write_point(struct reading reading, int32_t *point)
 {
     for (int i = 0; i < MOST_LENGTH; i++)
@@ -187,7 +187,7 @@ struct list coefficient(const struct question *question, uint32_t *bits)
     return answer;
 }
 
-/* "tally | 7, 4, 12"; "the lowest such place". */
+/* "tally | 7, 4, 12"; 12 names "the lowest such place". */
 struct list tally(const struct table *table, const struct page *page)
 {
     struct list list = {{0}};

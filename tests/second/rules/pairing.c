@@ -25,7 +25,7 @@ static int is_between(uint64_t number, uint64_t least, uint64_t most)
     return least <= number && number <= most;
 }
 
-/* "A table is 1 to 32 rows of 16 bytes, without a header", "1 to 32 rows". */
+/* "A table is 1 to 32 rows of 16 bytes, without a header". */
 static uint32_t faults_of_size(uint64_t size)
 {
     return fault_if(size == 0, NO_BYTES) | fault_if(size % ROW_SIZE != 0, PART_OF_A_ROW) |

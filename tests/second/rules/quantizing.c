@@ -126,7 +126,7 @@ static void make_point(const uint32_t *coefficients, struct quantizing *to)
     own_figure("sum of the magnitudes of a quantized point", radius, to->shell.radius);
 }
 
-/* "A number of several bytes has its high byte first". */
+/* The fields of a record: "A number of several bytes has its high byte first". */
 void write_record(uint8_t *record, uint64_t place, uint64_t row, uint64_t number, uint64_t codeword)
 {
     set_two_bytes(record + AT_PLACE, place);
