@@ -6,6 +6,7 @@
 #   kit_compile_folders FOLDER FROM ..  compiles each folder FROM: the files of tests/second/rules to FOLDER/rules
 #   kit_link PROGRAM FILE ..            links objects and archives, in that order, with the C library
 #   kit_run PROGRAM WORD ..             runs a program; the status is the program's own
+#   kit_archive NAME                    proves a library and writes its archive, unless no file has changed since
 #   kit_level                           the optimisation that kit_compile asks for, -O2 unless the script sets it
 # shellcheck shell=bash
 
@@ -58,4 +59,12 @@ kit_run() {
     emulator=$kit/toolchain/bin/qemu-x86_64
     [ -x "$emulator" ] || emulator=
     ${emulator:+"$emulator"} "$kit/toolchain/lib/ld-linux-x86-64.so.2" --library-path "$kit/toolchain/lib" "$program" "$@"
+}
+
+# `rt staticlib` proves the library anew each time. A folder is newer, too, where a file was added or removed.
+kit_archive() {
+    local archive=target/staticlib/lib$1.a
+    if [ ! -e "$archive" ] || [ -n "$(find crates crates.txt -newer "$archive" -print -quit)" ]; then
+        rt staticlib "$1"
+    fi
 }

@@ -26,12 +26,12 @@ static const struct {
     [UNREADABLE] = {"unreadable", "cannot be right", "#cc79a7", DARK, "<path d='M-4-3C-4-8 4-8 4-3C4 0 0 0 0 3M0 5V8'/>"},
 };
 
-void draw_box(struct file *to, enum reading_word answer, struct area area)
+void draw_box(FILE *to, enum reading_word answer, struct area area)
 {
     draw_area(to, area, looks[answer].colour, looks[answer].edge);
 }
 
-void draw_sign(struct file *to, enum reading_word answer, uint64_t x, uint64_t y)
+void draw_sign(FILE *to, enum reading_word answer, uint64_t x, uint64_t y)
 {
     if (answer != SOUND)
         fprintf(to, "<g transform='translate(%lu %lu)' fill='none' stroke='" DARK "' stroke-width='3'>%s</g>\n", x, y, looks[answer].sign);
@@ -45,7 +45,7 @@ static uint64_t count(const struct fates *fates, enum reading_word answer)
     return places;
 }
 
-void draw_legend(struct file *to, const struct fates *fates)
+void draw_legend(FILE *to, const struct fates *fates)
 {
     draw_area(to, (struct area){MARGIN, LEGEND_TOP, LEGEND_WIDTH, LEGEND_HEIGHT}, WHITE, GREY);
     for (enum reading_word answer = 0; answer < READINGS; answer++) {
@@ -59,7 +59,7 @@ void draw_legend(struct file *to, const struct fates *fates)
 }
 
 /* How many places have each answer, and the places that are not sound. */
-void tell_answers(struct file *to, const struct fates *fates)
+void tell_answers(FILE *to, const struct fates *fates)
 {
     for (enum reading_word answer = 0; answer < READINGS; answer++) {
         fprintf(to, "%lu %s%s", count(fates, answer), looks[answer].word, answer == SOUND ? "" : ", places");
@@ -71,7 +71,7 @@ void tell_answers(struct file *to, const struct fates *fates)
 }
 
 /* What the radio made another point of, where the answer does not show it. */
-void tell_not_as_sent(struct file *to, const struct fates *fates)
+void tell_not_as_sent(FILE *to, const struct fates *fates)
 {
     const char *before = "Not as it was sent, though no slate can tell: ";
     for (uint64_t place = 0; place < PLACES; place++)

@@ -10,9 +10,6 @@
 #include <stdio.h>
 #include <stdlib.h>
 
-/* What the drawing uses of the C library beside what listing.h declares. */
-__attribute__((format(printf, 2, 3))) int fprintf(struct file *to, const char *format, ...);
-
 enum {
     COLUMNS = 24, /* of the picture, in pixels */
     LINES = 16,

@@ -16,13 +16,13 @@ enum {
 
 #define TITLE "font-size='18' font-weight='bold'"
 
-void draw_area(struct file *to, struct area area, const char *colour, const char *edge)
+void draw_area(FILE *to, struct area area, const char *colour, const char *edge)
 {
     fprintf(to, "<rect x='%lu' y='%lu' width='%lu' height='%lu'", area.x, area.y, area.width, area.height);
     fprintf(to, " fill='%s' stroke='%s' shape-rendering='crispEdges'/>\n", colour, edge);
 }
 
-void draw_text(struct file *to, uint64_t x, uint64_t y, const char *look, const char *text)
+void draw_text(FILE *to, uint64_t x, uint64_t y, const char *look, const char *text)
 {
     fprintf(to, "<text x='%lu' y='%lu' %s>%s</text>\n", x, y, look, text);
 }
@@ -39,19 +39,19 @@ static uint64_t run_from(const char *line, uint64_t column, char pixel)
 }
 
 /* Within a picture all lengths are in its own pixels. */
-void begin_picture(struct file *to, uint64_t x, uint64_t y, uint64_t pixel_side)
+void begin_picture(FILE *to, uint64_t x, uint64_t y, uint64_t pixel_side)
 {
     fprintf(to, "<g transform='translate(%lu %lu) scale(%lu)' shape-rendering='crispEdges'>\n", x, y, pixel_side);
     fprintf(to, "<rect width='%d' height='%d' fill='" WHITE "'/>\n", COLUMNS, LINES);
 }
 
-void end_picture(struct file *to)
+void end_picture(FILE *to)
 {
     fprintf(to, "</g>\n");
 }
 
 /* All pixels of a kind, a box for each run of them. */
-void draw_tone(struct file *to, const struct picture *picture, char pixel, const char *colour)
+void draw_tone(FILE *to, const struct picture *picture, char pixel, const char *colour)
 {
     uint64_t runs = 0;
     fprintf(to, "<path fill='%s' d='", colour);
@@ -65,7 +65,7 @@ void draw_tone(struct file *to, const struct picture *picture, char pixel, const
 }
 
 /* A screen reader tells these words in the place of the drawing. */
-static void draw_head(struct file *to, const struct fates *fates)
+static void draw_head(FILE *to, const struct fates *fates)
 {
     fprintf(to, "<svg xmlns='http://www.w3.org/2000/svg' width='%d' height='%d' viewBox='0 0 %d %d'\n", WIDTH, HEIGHT, WIDTH, HEIGHT);
     fprintf(to, "role='img' aria-labelledby='title desc' font-family='sans-serif' fill='" DARK "'>\n");
@@ -79,21 +79,21 @@ static void draw_head(struct file *to, const struct fates *fates)
 }
 
 /* The title stands above the picture. */
-static void begin_panel(struct file *to, uint64_t x, const char *title)
+static void begin_panel(FILE *to, uint64_t x, const char *title)
 {
     draw_text(to, x, PANELS_TOP - 14, TITLE, title);
     begin_picture(to, x, PANELS_TOP, PIXEL_SIDE);
 }
 
 /* The caption stands below the picture. */
-static void end_panel(struct file *to, uint64_t x, const char *caption)
+static void end_panel(FILE *to, uint64_t x, const char *caption)
 {
     end_picture(to);
     draw_area(to, (struct area){x, PANELS_TOP, COLUMNS * PIXEL_SIDE, LINES * PIXEL_SIDE}, "none", GREY);
     draw_text(to, x, PANELS_TOP + LINES * PIXEL_SIDE + 21, PLAIN, caption);
 }
 
-static void draw_panels(struct file *to, const struct picture *shown)
+static void draw_panels(FILE *to, const struct picture *shown)
 {
     begin_panel(to, FIRST_PANEL, "1. As it was sent");
     draw_tone(to, &picture_sent, INK, DARK);
@@ -104,7 +104,7 @@ static void draw_panels(struct file *to, const struct picture *shown)
     end_panel(to, SECOND_PANEL, "After the radio. Black is ink, grey is half ink.");
 }
 
-static void draw_third_panel(struct file *to, const struct picture *shown, const struct fates *fates)
+static void draw_third_panel(FILE *to, const struct picture *shown, const struct fates *fates)
 {
     draw_text(to, MARGIN, THIRD_TITLE, TITLE, "3. What became of each place");
     draw_text(to, MARGIN, THIRD_TITLE + 23, PLAIN,
@@ -126,7 +126,7 @@ void write_drawing(const char *folder, const char *name, const struct picture *s
 {
     char path[MOST_PATH];
     snprintf(path, sizeof path, "%s/%s/page.svg", folder, name);
-    struct file *to = fopen(path, "wb");
+    FILE *to = fopen(path, "wb");
     if (!to)
         no_file(path);
     draw_head(to, fates);

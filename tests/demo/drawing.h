@@ -26,20 +26,20 @@ struct area {
 };
 
 /* drawing.c: what the other parts are made of */
-void draw_area(struct file *to, struct area area, const char *colour, const char *edge);
-void draw_text(struct file *to, uint64_t x, uint64_t y, const char *look, const char *text);
-void begin_picture(struct file *to, uint64_t x, uint64_t y, uint64_t pixel_side);
-void end_picture(struct file *to);
-void draw_tone(struct file *to, const struct picture *picture, char pixel, const char *colour);
+void draw_area(FILE *to, struct area area, const char *colour, const char *edge);
+void draw_text(FILE *to, uint64_t x, uint64_t y, const char *look, const char *text);
+void begin_picture(FILE *to, uint64_t x, uint64_t y, uint64_t pixel_side);
+void end_picture(FILE *to);
+void draw_tone(FILE *to, const struct picture *picture, char pixel, const char *colour);
 
 /* maps.c: a map of each band, with its places over the picture that a slate shows */
-void draw_maps(struct file *to, const struct picture *shown, const struct fates *fates);
+void draw_maps(FILE *to, const struct picture *shown, const struct fates *fates);
 
 /* answers.c: how the answer of a place is drawn, and what is said of all of them */
-void draw_box(struct file *to, enum reading_word answer, struct area area);
-void draw_sign(struct file *to, enum reading_word answer, uint64_t x, uint64_t y);
-void draw_legend(struct file *to, const struct fates *fates);
-void tell_answers(struct file *to, const struct fates *fates);
-void tell_not_as_sent(struct file *to, const struct fates *fates);
+void draw_box(FILE *to, enum reading_word answer, struct area area);
+void draw_sign(FILE *to, enum reading_word answer, uint64_t x, uint64_t y);
+void draw_legend(FILE *to, const struct fates *fates);
+void tell_answers(FILE *to, const struct fates *fates);
+void tell_not_as_sent(FILE *to, const struct fates *fates);
 
 #endif

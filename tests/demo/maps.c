@@ -18,7 +18,7 @@ static uint64_t left_of_map(uint64_t band)
 }
 
 /* The name stands above the map, and below it which places the band has. */
-static void draw_name(struct file *to, uint64_t band)
+static void draw_name(FILE *to, uint64_t band)
 {
     uint64_t first = 0;
     while (row_of(&demo_table, first) != band)
@@ -40,7 +40,7 @@ static struct area area_of(uint64_t place)
 }
 
 /* The number stands beside the sign, below it in a narrow box, and alone in the box of a sound place. */
-static void draw_mark(struct file *to, enum reading_word answer, uint64_t place)
+static void draw_mark(FILE *to, enum reading_word answer, uint64_t place)
 {
     const struct area area = area_of(place);
     const int is_beside = answer != SOUND && area.width > NARROW, is_below = answer != SOUND && area.width <= NARROW;
@@ -51,7 +51,7 @@ static void draw_mark(struct file *to, enum reading_word answer, uint64_t place)
 
 /* The places of a band that are sound, or those that are not. A sound place has a number only if its point is not the
    one that was sent. */
-static void draw_places(struct file *to, uint64_t band, const struct fates *fates, int are_sound)
+static void draw_places(FILE *to, uint64_t band, const struct fates *fates, int are_sound)
 {
     for (uint64_t place = 0; place < PLACES; place++)
         if (row_of(&demo_table, place) == band && (fates->answers[place] == SOUND) == are_sound) {
@@ -62,7 +62,7 @@ static void draw_places(struct file *to, uint64_t band, const struct fates *fate
 }
 
 /* The sound places come first, so that their thin lines do not cross the boxes of the others. */
-void draw_maps(struct file *to, const struct picture *shown, const struct fates *fates)
+void draw_maps(FILE *to, const struct picture *shown, const struct fates *fates)
 {
     for (uint64_t band = 0; band < BANDS; band++) {
         draw_name(to, band);
