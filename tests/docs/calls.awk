@@ -1,10 +1,6 @@
 # Reads the facts that facts.awk prints, then docs/CALLS.md and docs/RULES.md, and prints where they differ.
 # docs/CALLS.md has an entry for each call and no other, with its signature, every type, every refusal's number, and
 # under "Refuses" the numbers in their order. docs/RULES.md has each call's order, and each number among its refusals.
-function wrong(what) {
-    print what
-    differs = 1
-}
 function refuses(call) {
     if (call == "last_line" || call == "refused_line")
         return order["line"]
@@ -68,7 +64,5 @@ END {
     gsub(/[ ]+/, " ", code)
     check_calls()
     check_refusals()
-    if (!differs)
-        print entries > counted
-    exit differs
+    finish(entries)
 }

@@ -12,10 +12,6 @@ function floor(crate,    used, uses, i, most) {
     known[crate] = most + 1
     return known[crate]
 }
-function wrong(what) {
-    print "docs/DEVELOPING.md: " what
-    differs = 1
-}
 /^#/ && FNR == NR { next }
 FNR == NR {
     crate = substr($1, 1, length($1) - 1)
@@ -30,17 +26,15 @@ drawing && /^    / {
         sub(/^ *[0-9]+/, "")
     }
     if (!($1 in below))
-        wrong("draws " $1 ", which is no crate")
+        wrong("docs/DEVELOPING.md: draws " $1 ", which is no crate")
     else if (floor($1) != here)
-        wrong($1 " stands on floor " floor($1) ", not " here)
+        wrong("docs/DEVELOPING.md: " $1 " stands on floor " floor($1) ", not " here)
     drawn[$1] = 1
     number++
 }
 END {
     for (crate in below)
         if (!(crate in drawn))
-            wrong("does not draw " crate)
-    if (!differs)
-        print number > counted
-    exit differs
+            wrong("docs/DEVELOPING.md: does not draw " crate)
+    finish(number)
 }

@@ -20,14 +20,8 @@ FNR == 1 { rules = plain(rules) }
     parts = split(substr($0, tab + 1), part, "\"")
     for (i = 2; i < parts; i += 2) {
         quoted++
-        if (!stands(plain(part[i]))) {
-            print substr($0, 1, tab - 1) ": quotes what the rules don't say: " plain(part[i])
-            wrong = 1
-        }
+        if (!stands(plain(part[i])))
+            wrong(substr($0, 1, tab - 1) ": quotes what the rules don't say: " plain(part[i]))
     }
 }
-END {
-    if (!wrong)
-        print quoted > counted
-    exit wrong
-}
+END { finish(quoted) }

@@ -2,8 +2,7 @@
 # character are not counted, so this wants LC_ALL=C. In C a comment is what begins with /* and all up to */. In a
 # page, prose is what is neither a row of a table nor indented by four spaces.
 function tell(what) {
-    print FILENAME ":" FNR ": " what
-    faults = 1
+    wrong(FILENAME ":" FNR ": " what)
 }
 FNR == 1 {
     is_antt = FILENAME ~ /\.antt$/
@@ -31,14 +30,10 @@ FNR == 1 {
 is_comment && length(text) > 120 { tell("prose of more than 120 columns") }
 !(is_antt || is_rattle) { next }
 FNR == 1 && FILENAME !~ /\/Lib\.antt$/ && !is_comment { tell("no sentence at the head") }
-text ~ /Assumes nothing|These are no calls/ { tell("a refrain: docs/DEVELOPING.md says it once") }
+text ~ /Assumes nothing|These are no calls|This is no call/ { tell("a refrain: docs/DEVELOPING.md says it once") }
 is_comment { next }
 FILENAME !~ /\/proofs\// && length(text) > 160 { tell("a line of more than 160 columns") }
 is_antt && text ~ /(^|[^A-Za-z-])axiom([^A-Za-z-]|$)|Prim\.Axiom|allow-axioms/ { tell("an axiom") }
 is_antt && text ~ /(^|[ (,;=])\?/ { tell("a hole in a proof") }
 is_rattle && text ~ /extern "C" *(\{|$)/ { tell("a foreign function with a contract that nothing proves") }
-END {
-    if (!faults)
-        print lines > counted
-    exit faults
-}
+END { finish(lines) }

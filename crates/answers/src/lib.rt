@@ -1,6 +1,5 @@
-// The refusals of docs/RULES.md, "Refusal numbers": one enum for every call. A case carries what the table names in
-// brackets, or, for the tally, the place; `meaning` in specs/Refusals.antt gives each case the number and the
-// values of the rules.
+// The refusals of docs/RULES.md, "Refusal numbers": one enum for every call. A case carries what the table says
+// that the refusal names; `meaning` in specs/Refusals.antt gives each case the number and the values of the rules.
 ghost use mathlib.Core.Path.{_≡_};
 ghost use Rattle.answers.specs.Refusals.{numberOf, firstNamed, secondNamed};
 

@@ -1,5 +1,4 @@
-// The binomials of n below 32 and r below 16, 16 numbers of each n. This is no call: what it requires, each caller
-// is proved to meet. No number below 512 takes the last arm.
+// The binomials of n below 32 and r below 16, 16 numbers of each n. No number below 512 takes the last arm.
 ghost use mathlib.Core.Path.{_≡_};
 ghost use Prim.Native.Nat.{_<_};
 ghost use Rattle.counts.specs.Triangle.{stored};

@@ -1,4 +1,4 @@
--- Demand 3 as the order words it, of a whole page: from a, c and d.
+-- Demand 3 of a whole page: from a, c and d.
 use mathlib.Core.Path.{ap}
 use Rattle.rules.specs.Taking.{Received, empty}
 use Rattle.channel.specs.Demand3.{WholePage}

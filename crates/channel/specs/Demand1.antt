@@ -1,7 +1,7 @@
--- Demand 1, every call on every input: a refusal returns its number and changes nothing; a number is given exactly
--- when its condition holds and no condition before it in the call's order does; any two results that a contract
--- allows are equal. A call is named here by what its contract cites: what it says, and what it leaves in the buffer
--- that is lent to it. Collect refuses nothing; its contract is two equations.
+-- Demand 1 (docs/RULES.md, "Demands"), every call on every input: a refusal returns its number and changes nothing;
+-- a number is given exactly when its condition holds and no condition before it in the call's order does; any two
+-- results that a contract allows are equal. A call is named here by what its contract cites: what it says, and what
+-- it leaves in the buffer that is lent to it. Collect refuses nothing; its contract is two equations.
 use Prim.Native.Nat.{ℕ, suc}
 use mathlib.Core.Path.{_≡_}
 use mathlib.Core.List.{List, [], _∷_, map, List·Memᴰ}

@@ -1,5 +1,6 @@
--- Demand 2, indices, records and answers. What is said of indices is said of the product enumeration, by which both
--- workshops number the points; what is said of a page, of the enumeration of each place's row.
+-- Demand 2 (docs/RULES.md, "Demands"), indices, records and answers. What is said of indices is said of the product
+-- enumeration, by which both workshops number the points; what is said of a page, of the enumeration of each
+-- place's row.
 use Prim.Native.Nat.{ℕ, suc, _*_, _^_, _≤_, _<_, _∣_}
 use mathlib.Core.Path.{_≡_}
 use mathlib.Core.List.{List, [], _∷_, _++_}

@@ -1,7 +1,7 @@
--- Demand 3, what the channel does: it loses, repeats, reorders and changes what it carries. t is a table, xs what
--- arrives, byte strings of any length and content in the order of arrival, those among them that are refused; p is
--- a place. Stated over the page rules, to which the contracts of take and collect tie the code, and over what the
--- contracts of read and coefficient say.
+-- Demand 3 (docs/RULES.md, "Demands"), what the channel does: it loses, repeats, reorders and changes what it
+-- carries. t is a table, xs what arrives, byte strings of any length and content in the order of arrival, those
+-- among them that are refused; p is a place. Stated over the page rules, to which the contracts of take and collect
+-- tie the code, and over what the contracts of read and coefficient say.
 use Prim.Native.Nat.{ℕ, _/_, _^_, _<_}
 use mathlib.Core.Path.{_≡_}
 use mathlib.Core.List.{List, [], _∷_, _++_, List·Memᴰ, List·Permᴰ}
@@ -47,8 +47,9 @@ pub record TwoDiffer (t : List ℕ) (xs : List (List ℕ)) (p : ℕ) : Type 0 wh
 abbrev pub WhatCame : List ℕ → List (List ℕ) → ℕ → Type 0
 WhatCame t xs p = Nobody t xs p ⊎ (((y : List ℕ) × OnlyCame t xs p y) ⊎ TwoDiffer t xs p)
 
--- ---- what is read of a place an answer by its number and reason, a point or zeros, and what each coefficient
--- carries, with a buffer of the right length and every coordinate
+-- ---- what is read of a place
+-- an answer by its number and reason, a point or zeros, and what each coefficient carries, with a buffer of the
+-- right length and every coordinate
 pub record Reads (t pg : List ℕ) (p answer reason : ℕ) (q : List ℤ) (carries : ℕ → List Float) : Type 0 where
   pub read-says : (out : List ℤ) → length out ≡ lengthFor t p → readSays t pg p out ≡ 0 ∷ answer ∷ reason ∷ []
   pub read-leaves : (out : List ℤ) → length out ≡ lengthFor t p → readLeaves t pg p out ≡ q
@@ -140,7 +141,7 @@ ReadOnlySent = (t : List ℕ) (xs : List (List ℕ)) (p : ℕ) (out : List ℤ) 
 abbrev pub ValuedOnlySent : Type 0
 ValuedOnlySent = (t : List ℕ) (xs : List (List ℕ)) (p i : ℕ) → ShowsPoint (coefficientSays t (grown t xs) p i) → OnlySent t xs p
 
--- ---- The demand as the order words it: one good table, an empty page, a written record for every place, and any
+-- ---- The demand of a whole page: one good table, an empty page, a written record for every place, and any
 -- list of arrivals. What is sent for a page: for each place p the coefficients w p, which quantize accepts, the
 -- record r p that it leaves, and its point q p.
 abbrev pub PageSent : List ℕ → (ℕ → List Float) → (ℕ → List ℕ) → (ℕ → List ℤ) → Type 0

@@ -52,5 +52,5 @@ pub record Witness : Type 0 where
   pub shows-mended : ShowsPoint (readSays wholeCase page 1 zeros)
   -- a table may hold every byte
   pub any-byte : (n : ℕ) → n < 256 → Bytes (n ∷ [])
-  -- the demand as the order words it: the same vector, sent for every place of the table
+  -- the demand of a whole page: the same vector, sent for every place of the table
   pub page-sent : PageSent wholeCase (λ p. vector) (λ p. of p 0 1 5) (λ p. sent)

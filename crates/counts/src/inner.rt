@@ -1,5 +1,5 @@
 // The stored counts by their recurrence: what the last arm of a table calls, for the numbers that the table does
-// not hold. This is no call: it has a `requires`, which the tables meet.
+// not hold.
 ghost use mathlib.Core.Path.{_≡_};
 ghost use Prim.Native.Nat.{_/_, _<_};
 ghost use Rattle.counts.specs.Triangle as triangle;

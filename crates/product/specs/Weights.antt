@@ -63,7 +63,7 @@ pub record Summable (w : Weight) (start shapes signs : ℕ) : Type 0 where
   pub block-to : w .pattern * shapes + (shapes - 1 - w .after) ≤ 2 ^ 32
   pub index-to : start + (w .pattern * shapes + (shapes - 1 - w .after)) * signs + w .sign ≤ 2 ^ 32
 
--- the index that a weight makes up in a shell (docs/RULES.md, "Index =")
+-- the index that a weight makes up in a shell (docs/RULES.md, "The product index", "Index")
 abbrev pub weighed : ℕ → ℕ → Weight → ℕ
 weighed l k w = indexFrom (w .s) l k (w .pattern) (S (w .s) k - 1 - w .after) (w .sign)
 

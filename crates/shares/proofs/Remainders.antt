@@ -17,9 +17,9 @@ use Rattle.shares.proofs.Giving.{largest-is, largest-some, none-larger,
 use Rattle.shares.proofs.Sums.{units-enough}
 use Rattle.shares.proofs.Sharing.{shared-length, shared-sum}
 
--- ---- units given one by one Of remainders rs and whole parts ws, `rests` and `shares` are left: each coordinate
--- has both as they were, or one more and nothing of its remainder; and those that have one more come before those
--- that have not.
+-- ---- units given one by one
+-- Of remainders rs and whole parts ws, `rests` and `shares` are left: each coordinate has both as they were, or one
+-- more and nothing of its remainder; and those that have one more come before those that have not.
 record Given (rs ws rests shares : List ℕ) : Type 0 where
   rests-long : length rests ≡ length rs
   shares-long : length shares ≡ length rs
