@@ -1,11 +1,16 @@
 -- The check of the page's length behind a survey by any checks, and what a place of such a page is known by.
-use Prim.Native.Nat.{ℕ, _<_}
+use Prim.Native.Nat.{ℕ, zero, suc, _≤_, _<_}
 use mathlib.Core.Bool.{Bool, true, false}
 use mathlib.Core.List.{List, [], _∷_, _++_}
-use mathlib.Core.Path.{_≡_, sym, ap, _∙_}
+use mathlib.Core.Path.{_≡_, refl, sym, ap, _∙_}
+use native.Mathlib.Omega.{arith}
 use lib.ListN.{length}
-use Rattle.answers.specs.Checks.{Check}
-use Rattle.pairing.proofs.Surveys.{Surveys, survey-good, one-fails, one-passes}
+use Rattle.answers.proofs.InOrder.{Numbered}
+use Rattle.answers.proofs.OneToOne.{said}
+use Rattle.answers.specs.Checks.{Check, pick, firstOf, Passes}
+use Rattle.answers.specs.Refusals.{meaning}
+use Rattle.answers.specs.declared.Refusal.{Refusal}
+use Rattle.pairing.proofs.Surveys.{Surveys, survey-good}
 use Rattle.pairing.specs.Meanings.{surveyMeaning}
 use Rattle.pairing.specs.declared.inner.survey.Surveyed.{Surveyed}
 use Rattle.pairing.specs.declared.inner.survey.Surveyed.the-variants as surveyed
@@ -18,18 +23,48 @@ use Rattle.layout.specs.Bounds.{InPage}
 use Rattle.layout.specs.Layout.{pageLength, pageLengthCheck}
 use Rattle.rules.proofs.Pages.{look-numbered, look-place, look-size}
 use Rattle.rules.specs.Taking.{pageCheck, lookChecks}
+use Rattle.places.specs.Opening.{placesTold, withPage}
 
--- `wrong` is what was found of the length
-module _ {checks : List Check} {t : List ℕ} {p places row : ℕ} (found : Surveys checks t p places row) (pg : List ℕ) {wrong : Bool}
-    (is-wrong : wrong ≡ pageLengthCheck places (length pg) .fails) where
-  judged : {b : Bool} → wrong ≡ b → pageCheck t pg .fails ≡ b
-  judged same = sym (is-wrong ∙ ap (λ (n : ℕ). pageLengthCheck n (length pg) .fails) (found .is-places)) ∙ same
+-- what is said behind a survey that was no refusal; `wrong` is what was found of the length
+pub page-judged : (b : ℕ) {survey : Surveyed} {places row : ℕ} {wrong : Bool} → survey ≡ surveyed.Good places row → wrong ≡ pageLengthCheck places b .fails
+    → pick wrong (4 ∷ []) (0 ∷ places ∷ row ∷ []) ≡ withPage (surveyMeaning survey) b
+page-judged b {places = places} {row = row} told is-wrong =
+    ap (λ (w : Bool). pick w (4 ∷ []) (0 ∷ places ∷ row ∷ [])) is-wrong ∙ ap (λ (s : Surveyed). withPage (surveyMeaning s) b) (sym told)
 
-  pub page-refused : wrong ≡ true → 4 ∷ [] ≡ surveySays (checks ++ (pageCheck t pg ∷ [])) t p
-  page-refused e = one-fails found (pageCheck t pg) (judged e)
+-- a refusal stands
+pub refusal-stands : (b : ℕ) {survey : Surveyed} {r : Refusal} → survey ≡ surveyed.Bad r → meaning r ≡ withPage (surveyMeaning survey) b
+refusal-stands b {r = r} told =
+    let number = said r .says in
+    number ∙ sym (ap (λ (says : List ℕ). withPage says b) number) ∙ ap (λ (s : Surveyed). withPage (surveyMeaning s) b) (sym told)
 
-  pub page-passed : wrong ≡ false → 0 ∷ places ∷ row ∷ [] ≡ surveySays (checks ++ (pageCheck t pg ∷ [])) t p
-  page-passed e = one-passes found (pageCheck t pg) (judged e)
+-- the check of the page's length stands behind those of any survey
+with-page : (checks : List Check) (places row b : ℕ) → Numbered checks
+    → withPage (firstOf checks (0 ∷ places ∷ row ∷ [])) b ≡ firstOf (checks ++ (pageLengthCheck places b ∷ [])) (0 ∷ places ∷ row ∷ [])
+with-page [] places row b numbered = refl
+with-page (c ∷ checks) places row b numbered = by-check (c .fails) (c .number) (numbered .0) (with-page checks places row b (numbered .1))
+  where
+    by-check : (fails : Bool) (n : ℕ) → 0 < n
+        → withPage (firstOf checks (0 ∷ places ∷ row ∷ [])) b ≡ firstOf (checks ++ (pageLengthCheck places b ∷ [])) (0 ∷ places ∷ row ∷ [])
+        → withPage (pick fails (n ∷ c .values) (firstOf checks (0 ∷ places ∷ row ∷ []))) b
+        ≡ pick fails (n ∷ c .values) (firstOf (checks ++ (pageLengthCheck places b ∷ [])) (0 ∷ places ∷ row ∷ []))
+    by-check true zero above rest = absurd (omega arith)
+    by-check true (suc n) above rest = refl
+    by-check false n above rest = rest
+
+pub page-behind : (checks : List Check) (t : List ℕ) (p : ℕ) (pg : List ℕ) → Numbered checks → {said with-it : List ℕ} → said ≡ surveySays checks t p
+    → with-it ≡ withPage said (length pg) → with-it ≡ surveySays (checks ++ (pageCheck t pg ∷ [])) t p
+page-behind checks t p pg numbered says with-says =
+    with-says
+    ∙ ap (λ (said : List ℕ). withPage said (length pg)) says
+    ∙ with-page checks (placesIn t) (rowOf t p) (length pg) numbered
+
+-- a table that passes has at most 4,096 places
+pub told-to : (checks : List Check) (t : List ℕ) (p : ℕ) (survey : Surveyed) → Numbered checks → (Passes checks → Good t)
+    → surveyMeaning survey ≡ surveySays checks t p → placesTold survey ≤ 4096
+told-to checks t p (surveyed.Good places row) numbered good says =
+    let found = survey-good checks t p {survey = surveyed.Good places row} says numbered refl in
+    omega (arith, found .is-places, places-to t (good (found .passes)))
+told-to checks t p (surveyed.Bad refusal) numbered good says = omega arith
 
 -- a place of a page of the right length
 pub in-page : (t : List ℕ) {pg : List ℕ} {places p : ℕ} → Good t → length pg ≡ pageLength (placesIn t) → places ≡ placesIn t → p < placesIn t → InPage pg places p

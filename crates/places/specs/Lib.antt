@@ -1,1 +1,2 @@
 pub mod Looking
+pub mod Opening

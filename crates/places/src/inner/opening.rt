@@ -6,15 +6,19 @@ use pairing::inner::survey::Surveyed;
 use pairing::inner::survey::survey;
 use pairing::inner::survey::survey_place;
 ghost use mathlib.Core.Path.{_≡_};
+ghost use Prim.Native.Nat.{_≤_};
+ghost use lib.ListN.{length};
 ghost use Rattle.pairing.specs.Meanings.{surveyMeaning};
 ghost use Rattle.rules.specs.Taking.{pageChecks, lookChecks};
 ghost use Rattle.tables.specs.Table.{surveySays};
+ghost use Rattle.places.specs.Opening.{placesTold, withPage};
 
-// The table, and the page.
-pub fn survey_page(table: &[u8], page: &[u8]) -> Surveyed
-    ensures { λ r. ⌜ surveyMeaning r ≡ surveySays (pageChecks (now (table .entry)) (now (page .entry))) (now (table .entry)) 0 ⌝ }
+// A survey, with the check of the page's length behind it.
+fn with_page(surveyed: Surveyed, page: &[u8]) -> Surveyed
+    requires { ⌜ placesTold surveyed ≤ 4096 ⌝ }
+    ensures { λ r. ⌜ surveyMeaning r ≡ withPage (surveyMeaning surveyed) (length (now (page .entry))) ⌝ }
 {
-    match survey(table, 0) {
+    match surveyed {
         Surveyed::Good { places, row } => {
             if wrong_page(places, page.len()) {
                 return Surveyed::Bad(Refusal::BufferLength);
@@ -25,17 +29,16 @@ pub fn survey_page(table: &[u8], page: &[u8]) -> Surveyed
     }
 }
 
+// The table, and the page.
+pub fn survey_page(table: &[u8], page: &[u8]) -> Surveyed
+    ensures { λ r. ⌜ surveyMeaning r ≡ surveySays (pageChecks (now (table .entry)) (now (page .entry))) (now (table .entry)) 0 ⌝ }
+{
+    with_page(survey(table, 0), page)
+}
+
 // The table, a place, and the page.
 pub fn survey_look(table: &[u8], page: &[u8], place: usize) -> Surveyed
     ensures { λ r. ⌜ surveyMeaning r ≡ surveySays (lookChecks (now (table .entry)) (now (page .entry)) place) (now (table .entry)) place ⌝ }
 {
-    match survey_place(table, place) {
-        Surveyed::Good { places, row } => {
-            if wrong_page(places, page.len()) {
-                return Surveyed::Bad(Refusal::BufferLength);
-            }
-            Surveyed::Good { places, row }
-        }
-        Surveyed::Bad(refusal) => Surveyed::Bad(refusal),
-    }
+    with_page(survey_place(table, place), page)
 }
