@@ -36,4 +36,7 @@ FILENAME !~ /\/proofs\// && length(text) > 160 { tell("a line of more than 160 c
 is_antt && text ~ /(^|[^A-Za-z-])axiom([^A-Za-z-]|$)|Prim\.Axiom|allow-axioms/ { tell("an axiom") }
 is_antt && text ~ /(^|[ (,;=])\?/ { tell("a hole in a proof") }
 is_rattle && text ~ /extern "C" *(\{|$)/ { tell("a foreign function with a contract that nothing proves") }
+is_rattle && text ~ /^ *(pub )?(extern "C" )?fn / { is_call = text ~ /^ *pub / && FILENAME !~ /\/inner(\/|\.rt$)/ }
+is_rattle && text ~ /^\{/ { is_call = 0 }
+is_rattle && is_call && text ~ /requires \{/ { tell("a call that asks something of its caller") }
 END { finish(lines) }
