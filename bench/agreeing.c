@@ -1,5 +1,5 @@
 /* Ours and plain C are asked the same. A difference, in the answer or in what a call is lent, is an error; else the
-   answer is returned, of quantize, take and read the refusal number. */
+   answer is returned, of quantize, take, read and send the refusal number. */
 
 #include "bench.h"
 
@@ -16,6 +16,7 @@ static struct {
     uint64_t vectors;
     uint64_t takes;
     uint64_t places;
+    uint64_t pages;
     uint64_t refused;
 } compared;
 
@@ -28,7 +29,8 @@ static void note(uint64_t *calls, int is_refused)
 void print_compared(void)
 {
     printf("%lu indices, %lu points, %lu vectors, ", compared.indices, compared.points, compared.vectors);
-    printf("%lu takes, %lu places, %lu of all these refused\n", compared.takes, compared.places, compared.refused);
+    printf("%lu takes, %lu places, %lu sent pages, ", compared.takes, compared.places, compared.pages);
+    printf("%lu of all these refused\n", compared.refused);
 }
 
 static void hold(const char *call, uint64_t ours, uint64_t plain, int are_same)
@@ -94,5 +96,24 @@ uint64_t agree_on_read(const struct table *table, const uint8_t *page, uint64_t 
         hold("reason of read", ours[ITEM_REASON], plain.reason, 1);
     }
     note(&compared.places, plain.refusal != 0);
+    return plain.refusal;
+}
+
+/* Of refusal 11 the place and the coordinate are compared too. */
+uint64_t agree_on_send(const struct table *table, const float *run, uint64_t run_length, uint64_t buffer_length)
+{
+    static uint8_t one[MOST_BUFFER + SPARE], other[MOST_BUFFER + SPARE];
+    uint64_t ours[SENT_ITEMS];
+    __builtin_memset(one, GARBAGE, sizeof one);
+    __builtin_memset(other, GARBAGE, sizeof other);
+    const struct plain_sending plain = plain_send(table->bytes, table->size, run, run_length, other, buffer_length);
+    for (uint64_t item = 0; item < SENT_ITEMS; item++)
+        ours[item] = probe_send(table->bytes, table->size, run, run_length, one, buffer_length, item);
+    hold("send", ours[0], plain.refusal, memcmp(one, other, sizeof one) == 0);
+    if (plain.refusal == 11) {
+        hold("place that send names", ours[1], plain.place, 1);
+        hold("coordinate that send names", ours[2], plain.coordinate, 1);
+    }
+    note(&compared.pages, plain.refusal != 0);
     return plain.refusal;
 }

@@ -6,11 +6,12 @@
 
 #include "../tests/second/draws/draws.h"
 #include "../tests/second/probe.h"
+#include "../tests/second/rules/sending.h"
 #include "plain/plain.h"
 
 enum {
     INPUTS = 4096, /* of each workload, compared and timed: too many for the processor to know the next by heart */
-    COUNTED = 64,  /* those of them that are run step by step */
+    COUNTED = 64,  /* those of them that are run step by step, but for whole pages */
     NAME = 80      /* the room for the name of a line */
 };
 
@@ -32,6 +33,7 @@ struct rivals {
     const char *what;
     struct side ours;
     struct side plain;
+    uint64_t counted; /* how many inputs are run step by step */
 };
 
 /* A vector that is quantized. */
@@ -53,7 +55,7 @@ struct figures {
 };
 #define UNCOUNTED (-1.0)
 
-/* Two tables: one row, and 32. */
+/* A table, and how many places it has. */
 struct setting {
     const char *name;
     struct table table;
@@ -85,6 +87,7 @@ uint32_t agree_on_point(struct shell shell, uint64_t index, uint64_t out_length)
 uint32_t agree_on_quantize(const struct table *table, const struct coefficients *in, uint64_t record_length);
 uint64_t agree_on_take(const struct table *table, uint8_t *page, uint8_t *page_of_plain, uint64_t size, const struct record *in);
 uint64_t agree_on_read(const struct table *table, const uint8_t *page, uint64_t size, uint64_t place, uint64_t out_length);
+uint64_t agree_on_send(const struct table *table, const float *run, uint64_t run_length, uint64_t buffer_length);
 void print_compared(void);
 
 /* draws.c: calls with what the second program draws */
@@ -106,13 +109,21 @@ struct plain_reading empty_read(const uint8_t *table, uint64_t table_length, con
                                 int32_t *out, uint64_t out_length);
 uint64_t empty_read_item(const uint8_t *table, uint64_t table_length, const uint8_t *page, uint64_t page_length, uint64_t place,
                          int32_t *out, uint64_t out_length, uint64_t which);
+struct plain_sending empty_send(const uint8_t *table, uint64_t table_length, const float *run, uint64_t run_length, uint8_t *buffer,
+                                uint64_t buffer_length);
+uint64_t empty_send_item(const uint8_t *table, uint64_t table_length, const float *run, uint64_t run_length, uint8_t *buffer,
+                         uint64_t buffer_length, uint64_t which);
 
-/* settings.c: the two tables, and a record of chance for a place of one */
+/* settings.c: the two tables, of one row and of 32; a table of one row for whole pages alone; and a record of chance
+   for a place of one of the two */
 enum { SETTINGS = 2 };
-extern struct setting settings[SETTINGS];
+extern struct setting settings[SETTINGS], long_page;
 void begin_settings(void);
 const uint8_t *row_for(const struct setting *setting, uint64_t place);
 void sound_record(const struct setting *setting, uint64_t place, uint8_t *record);
+
+/* vectors.c: a vector for a place */
+struct coefficients vector_for(const struct setting *setting, uint64_t place);
 
 /* The workloads, each in the file that its name says: their inputs are drawn, the answers compared, and the
    calls measured */
@@ -120,6 +131,7 @@ void bench_points(void);
 void bench_vectors(const struct setting *with);
 void bench_takes(const struct setting *with);
 void bench_reads(const struct setting *with);
+void bench_sends(const struct setting *with);
 void bench_programs(char **arguments);
 
 #endif

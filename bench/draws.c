@@ -1,10 +1,10 @@
-/* Calls with what the second program draws: bad tables of every kind, vectors near every tie or anywhere, some of them
-   unusable, and cells of every kind, with what arrives there. */
+/* Calls with what the second program draws: bad tables of every kind, vectors near every tie or anywhere, some of
+   them unusable, cells of every kind, with what arrives there, and whole pages with every set of faults. */
 
-#include "../tests/second/draws/page_draws.h"
+#include "../tests/second/draws/send_draws.h"
 #include "bench.h"
 
-enum { TABLES_OF_FAULT = 50, TABLES = 1000, VECTORS_OF_TABLE = 20, RECORDS_OF_TABLE = 50 };
+enum { TABLES_OF_FAULT = 50, TABLES = 1000, VECTORS_OF_TABLE = 20, RECORDS_OF_TABLE = 50, PAGES = 200 };
 
 /* Every call that is lent a bad table is refused, whatever else is lent. */
 static void try_bad_table(enum fault fault)
@@ -14,7 +14,7 @@ static void try_bad_table(enum fault fault)
     const struct coefficients in = {.length = table.bytes[AT_LENGTH] % (MOST_LENGTH + 1)};
     const struct record record = {.length = RECORD_SIZE};
     if (agree_on_quantize(&table, &in, RECORD_SIZE) != 7 || agree_on_read(&table, pages[0], CELL_SIZE, 0, in.length) != 7 ||
-        agree_on_take(&table, pages[0], pages[1], CELL_SIZE, &record) != 7)
+        agree_on_take(&table, pages[0], pages[1], CELL_SIZE, &record) != 7 || agree_on_send(&table, in.values, 1, RECORD_SIZE) != 7)
         fail("a bad table", "not refused");
 }
 
@@ -48,6 +48,27 @@ static void try_page(void)
     }
 }
 
+/* The same bits, as floats. */
+static uint64_t agree_on_sending(const struct sending *sending)
+{
+    static float run[ENTRIES(sending->run)];
+    __builtin_memcpy(run, sending->run, sizeof run);
+    return agree_on_send(&sending->table, run, sending->run_length, sending->buffer_length);
+}
+
+static void try_sets(void)
+{
+    static struct sending right, wrong;
+    const struct table table = small_table_by_chance();
+    send_by_chance(&right, &table);
+    for (int set = 0; set < SEND_SETS; set++) {
+        wrong = right;
+        make_wrong(&wrong, set);
+        if ((agree_on_sending(&wrong) != 0) != (set != 0))
+            fail("send", "refused or not, as was not meant");
+    }
+}
+
 void compare_draws(void)
 {
     for (int i = 0; i < FAULTS * TABLES_OF_FAULT; i++)
@@ -56,4 +77,6 @@ void compare_draws(void)
         try_vectors();
         try_page();
     }
+    for (int i = 0; i < PAGES; i++)
+        try_sets();
 }

@@ -42,6 +42,20 @@ struct plain_reading empty_read(const uint8_t *table, uint64_t table_length, con
     return (struct plain_reading){0};
 }
 
+struct plain_sending empty_send(const uint8_t *table, uint64_t table_length, const float *run, uint64_t run_length, uint8_t *buffer,
+                                uint64_t buffer_length)
+{
+    (void)table, (void)table_length, (void)run, (void)run_length, (void)buffer, (void)buffer_length;
+    return (struct plain_sending){0};
+}
+
+uint64_t empty_send_item(const uint8_t *table, uint64_t table_length, const float *run, uint64_t run_length, uint8_t *buffer,
+                         uint64_t buffer_length, uint64_t which)
+{
+    (void)table, (void)table_length, (void)run, (void)run_length, (void)buffer, (void)buffer_length, (void)which;
+    return 0;
+}
+
 uint64_t empty_read_item(const uint8_t *table, uint64_t table_length, const uint8_t *page, uint64_t page_length, uint64_t place,
                          int32_t *out, uint64_t out_length, uint64_t which)
 {

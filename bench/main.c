@@ -26,6 +26,9 @@ int main(int words, char **arguments)
         bench_takes(&settings[i]);
         bench_reads(&settings[i]);
     }
+    for (int i = 0; i < SETTINGS; i++)
+        bench_sends(&settings[i]);
+    bench_sends(&long_page);
     if (is_measured) {
         bench_programs(arguments + 1);
         print_slow_lines();

@@ -23,10 +23,10 @@ double nanoseconds_now(void)
 }
 
 /* Without what it takes to run an empty call. */
-static double instructions_of(struct side side)
+static double instructions_of(struct side side, uint64_t counted)
 {
-    const double with = steps_of_run(side.run, side.call, COUNTED), without = steps_of_run(side.run, side.empty, COUNTED);
-    return with < 0 || without < 0 ? UNCOUNTED : (with - without) / (double)COUNTED;
+    const double with = steps_of_run(side.run, side.call, counted), without = steps_of_run(side.run, side.empty, counted);
+    return with < 0 || without < 0 ? UNCOUNTED : (with - without) / (double)counted;
 }
 
 /* Nanoseconds a call, when all inputs are run so many times. */
@@ -57,7 +57,7 @@ void measure(struct rivals rivals)
 {
     if (!is_measuring)
         return;
-    struct figures ours = {instructions_of(rivals.ours), 1e9}, plain = {instructions_of(rivals.plain), 1e9};
+    struct figures ours = {instructions_of(rivals.ours, rivals.counted), 1e9}, plain = {instructions_of(rivals.plain, rivals.counted), 1e9};
     const uint64_t times = times_of_round(rivals.plain);
     for (int round = 0; round < ROUNDS; round++) {
         ours.nanoseconds = smaller(ours.nanoseconds, time_of(rivals.ours, times));

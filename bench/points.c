@@ -45,11 +45,13 @@ static void bench_shell(void)
     snprintf(what, sizeof what, "index, length %lu, radius %lu", shell.length, shell.radius);
     measure((struct rivals){what,
                             {run_index, (any_call *)probe_index, (any_call *)empty_index},
-                            {run_index, (any_call *)plain_index, (any_call *)empty_index}});
+                            {run_index, (any_call *)plain_index, (any_call *)empty_index},
+                            COUNTED});
     snprintf(what, sizeof what, "point, length %lu, radius %lu", shell.length, shell.radius);
     measure((struct rivals){what,
                             {run_point, (any_call *)probe_point, (any_call *)empty_point},
-                            {run_point, (any_call *)plain_point, (any_call *)empty_point}});
+                            {run_point, (any_call *)plain_point, (any_call *)empty_point},
+                            COUNTED});
 }
 
 void bench_points(void)

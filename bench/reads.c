@@ -70,5 +70,6 @@ void bench_reads(const struct setting *with)
     snprintf(what, sizeof what, "read, %s", setting->name);
     measure((struct rivals){what,
                             {run_read_item, (any_call *)probe_read, (any_call *)empty_read_item},
-                            {run_read, (any_call *)plain_read, (any_call *)empty_read}});
+                            {run_read, (any_call *)plain_read, (any_call *)empty_read},
+                            COUNTED});
 }

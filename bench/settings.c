@@ -1,11 +1,12 @@
-/* The two pairing tables that the calls are measured with: one of a row, and one of 32 rows of all lengths
-   with 4,096 places. */
+/* The pairing tables that the calls are measured with: one of a row, and one of 32 rows of all lengths with 4,096
+   places; and for whole pages one of a row of 4,096 places of length 16. */
 
 #include "bench.h"
 
 enum { PLACES = 128, STEP = 64 }; /* of each row */
 
 struct setting settings[SETTINGS] = {{.name = "1 row"}, {.name = "32 rows"}};
+struct setting long_page = {.name = "4,096 places of length 16"};
 
 static void begin_row(uint8_t *row, uint64_t length, uint64_t number)
 {
@@ -15,12 +16,13 @@ static void begin_row(uint8_t *row, uint64_t length, uint64_t number)
     set_two_bytes(row + AT_PLACES, PLACES);
 }
 
-static void begin_one_row(struct setting *setting)
+static void begin_one_row(struct setting *setting, uint64_t length, uint64_t places)
 {
     const uint8_t radii[MOST_RADII] = {0, 1, 2, 4, 6, 8, 10, 12};
     setting->table.size = ROW_SIZE;
-    setting->places = PLACES;
-    begin_row(setting->table.bytes, 8, MOST_RADII);
+    setting->places = places;
+    begin_row(setting->table.bytes, length, MOST_RADII);
+    set_two_bytes(setting->table.bytes + AT_PLACES, places);
     __builtin_memcpy(setting->table.bytes + AT_RADII, radii, sizeof radii);
 }
 
@@ -40,10 +42,12 @@ static void begin_rows(struct setting *setting)
 
 void begin_settings(void)
 {
-    begin_one_row(&settings[0]);
+    begin_one_row(&settings[0], 8, PLACES);
     begin_rows(&settings[1]);
+    begin_one_row(&long_page, MOST_LENGTH, MOST_PLACES);
 }
 
+/* Of one of the two. */
 const uint8_t *row_for(const struct setting *setting, uint64_t place)
 {
     return setting->table.bytes + place / PLACES * ROW_SIZE;

@@ -76,5 +76,6 @@ void bench_takes(const struct setting *with)
     snprintf(what, sizeof what, "take, %s", setting->name);
     measure((struct rivals){what,
                             {run_take_item, (any_call *)probe_take, (any_call *)empty_take_item},
-                            {run_take, (any_call *)plain_take, (any_call *)empty_take}});
+                            {run_take, (any_call *)plain_take, (any_call *)empty_take},
+                            COUNTED});
 }

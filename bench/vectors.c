@@ -19,10 +19,10 @@ static void run_quantize(any_call *call, uint64_t inputs)
 }
 
 /* Uneven parts of a sum that is less than half a step off that of a radius. */
-static struct coefficients vector_by_chance(void)
+struct coefficients vector_for(const struct setting *with, uint64_t place)
 {
-    struct coefficients in = {.place = chance_below(setting->places)};
-    const uint8_t *row = row_for(setting, in.place);
+    struct coefficients in = {.place = place};
+    const uint8_t *row = row_at(&with->table, place);
     const uint64_t step = two_bytes(row + AT_STEP), radius = row[AT_RADII + chance_below(row[AT_NUMBER_OF_RADII])];
     const float sum = (float)(radius * step + chance_below(step) / 2) / 256;
     uint64_t parts[MOST_LENGTH], all = 0;
@@ -42,12 +42,13 @@ void bench_vectors(const struct setting *with)
     char what[NAME];
     setting = with;
     for (uint64_t i = 0; i < INPUTS; i++) {
-        vectors[i] = vector_by_chance();
+        vectors[i] = vector_for(setting, chance_below(setting->places));
         if (agree_on_quantize(&setting->table, &vectors[i], RECORD_SIZE) != 0)
             fail("quantize", "refused");
     }
     snprintf(what, sizeof what, "quantize, %s", setting->name);
     measure((struct rivals){what,
                             {run_quantize, (any_call *)probe_quantize, (any_call *)empty_quantize},
-                            {run_quantize, (any_call *)plain_quantize, (any_call *)empty_quantize}});
+                            {run_quantize, (any_call *)plain_quantize, (any_call *)empty_quantize},
+                            COUNTED});
 }

@@ -8,11 +8,16 @@
 #   kit_run PROGRAM WORD ..             runs a program; the status is the program's own
 #   kit_archive NAME                    proves a library and writes its archive, unless no file has changed since
 #   kit_level                           the optimisation that kit_compile asks for, -O2 unless the script sets it
+#   kit_home                            what kit_folder prints, if the script has asked already
 # shellcheck shell=bash
 
 # The kit's part for this machine: two levels above the guide, then on/MACHINE.
 kit_folder() {
     local guide
+    if [ -n "${kit_home-}" ]; then
+        printf '%s\n' "$kit_home"
+        return
+    fi
     guide=$(rt doc) || return
     printf '%s/on/%s\n' "$(dirname "$(dirname "$guide")")" "$(uname -m)"
 }

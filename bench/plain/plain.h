@@ -34,6 +34,13 @@ struct plain_reading {
     uint32_t reason;
 };
 
+/* The refusal or 0; the place and the coordinate of 11. */
+struct plain_sending {
+    uint32_t refusal;
+    uint32_t place;
+    uint32_t coordinate;
+};
+
 /* counts.c */
 void plain_begin(void);
 
@@ -57,6 +64,10 @@ uint32_t plain_take(const uint8_t *table, uint64_t table_length, uint8_t *page, 
                     uint64_t record_length);
 struct plain_reading plain_read(const uint8_t *table, uint64_t table_length, const uint8_t *page, uint64_t page_length, uint64_t place,
                                 int32_t *out, uint64_t out_length);
+
+/* send.c */
+struct plain_sending plain_send(const uint8_t *table, uint64_t table_length, const float *run, uint64_t run_length, uint8_t *buffer,
+                                uint64_t buffer_length);
 
 static inline uint32_t pair_at(const uint8_t *high)
 {

@@ -1,5 +1,5 @@
-/* The parts of the maker of demo/: a picture, its sender, the radio, a slate and a drawing. The sender and the slate
-   use our own calls, which probe.h declares; what came is judged by the rules of the second program. */
+/* The parts of the makers of demo/: a picture and its desk, then the radio, a slate and a drawing. The slate uses our
+   own calls, which probe.h declares; what came is judged by the rules of the second program. */
 
 #ifndef DEMO_DEMO_H
 #define DEMO_DEMO_H
@@ -28,6 +28,13 @@ struct picture {
 /* The coefficients of a picture. */
 struct bands {
     float at[BANDS][BAND_LINES][BAND_COLUMNS];
+};
+
+/* Where a coefficient stands. */
+struct spot {
+    uint64_t band;
+    uint64_t line;
+    uint64_t column;
 };
 
 /* The record of each place, as it is sent. */
@@ -71,10 +78,13 @@ void show(const struct bands *received, struct picture *to);
 uint64_t pixels_not_as_sent(const struct picture *shown);
 void print_pictures(const struct picture *shown);
 
-/* coding.c: the sender's records of a picture, the pixels of a place, and what a slate makes of all that came */
+/* places.c: the pairing table, where a coordinate of a place stands, the pixels of a place, and its length */
 extern const struct table demo_table;
+struct spot spot(uint64_t place, uint64_t coordinate);
 struct box box_of(uint64_t place);
-void code(const struct bands *bands, struct sent *to);
+uint64_t length_at(uint64_t place);
+
+/* slate.c: what a slate makes of all that came */
 void receive(const struct capture *capture, struct bands *to);
 
 /* radio.c: what befalls the records, and what is to become of a place */

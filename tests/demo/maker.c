@@ -1,5 +1,5 @@
-/* Makes the two files of the demo and its drawing in a new folder, the same bytes in every run, and prints the picture
-   that was sent beside the one that a slate shows. */
+/* Makes the two files of the demo and its drawing in a new folder, the same bytes in every run, from the records that
+   a sender wrote for the desk's page; and prints the picture that was sent beside the one that a slate shows. */
 
 #include "demo.h"
 
@@ -18,22 +18,29 @@ static void require_picture(const struct sent *sent)
     }
 }
 
+/* A record for each place. */
+static void read_sent(const char *path, struct sent *to)
+{
+    const uint64_t size = read_file(path, to->records[0], sizeof to->records);
+    if (size != sizeof to->records) {
+        printf("demo, %s has %lu bytes, not those of %d records\n", path, size, PLACES);
+        exit(1);
+    }
+}
+
 int main(int words, char **word)
 {
     static struct capture capture;
-    struct bands bands, received;
+    struct bands received;
     struct picture shown;
     struct fates fates;
     struct sent sent;
-    if (words != 3) {
-        printf("maker FOLDER NAME\n");
+    if (words != 4) {
+        printf("maker RECORDS FOLDER NAME\n");
         return 1;
     }
     count_points();
-    own_figure("faults of the demo's table", judge(demo_table.bytes, demo_table.size).faults, 0);
-    own_figure("places of the demo's table", judge(demo_table.bytes, demo_table.size).places, PLACES);
-    split(&bands);
-    code(&bands, &sent);
+    read_sent(word[1], &sent);
     require_picture(&sent);
     broadcast(&sent, &capture);
     judge_fates(&sent, &capture, &fates);
@@ -41,7 +48,7 @@ int main(int words, char **word)
     receive(&capture, &received);
     show(&received, &shown);
     print_pictures(&shown);
-    write_case(word[1], &(struct stored_case){word[2], {demo_table.bytes, demo_table.size}, {capture.bytes, capture.size}, NULL});
-    write_drawing(word[1], word[2], &shown, &fates);
+    write_case(word[2], &(struct stored_case){word[3], {demo_table.bytes, demo_table.size}, {capture.bytes, capture.size}, NULL});
+    write_drawing(word[2], word[3], &shown, &fates);
     return 0;
 }

@@ -7,21 +7,6 @@
 
 enum { RUN = RECORD_SIZE * 1000 }; /* the bytes that are read at a time */
 
-/* "A file that is not there counts as empty". Of a table that is too long only the size counts. */
-static struct table read_table(void)
-{
-    static uint8_t beyond[RUN];
-    struct table table = {.size = 0};
-    FILE *file = fopen("pairing.bin", "rb");
-    if (!file)
-        return table;
-    table.size = fread(table.bytes, 1, sizeof table.bytes, file);
-    for (size_t more = 1; more > 0; table.size += more)
-        more = fread(beyond, 1, sizeof beyond, file);
-    fclose(file);
-    return table;
-}
-
 /* fread gives less than it is asked for at the end alone, so only the last run can have a part of
    fewer than 8 bytes. */
 static void gather_records(struct gathering *to)
@@ -42,7 +27,8 @@ int main(void)
     static struct gathering gathering;
     count_points();
     count_patterns_and_shapes();
-    const struct table table = read_table();
+    struct table table;
+    table.size = read_file("pairing.bin", table.bytes, sizeof table.bytes);
     const struct judgment judgment = judge(table.bytes, table.size);
     if (judgment.faults) {
         printf("refused 7\n");

@@ -1,6 +1,6 @@
-/* The parts of the lister and of the maker of cases. Both are written from docs/RULES.md, "Listing program" and "The
-   page", on top of the second program's rules of a table, a record, a cell and a point; they share nothing with the
-   program that they test. The lister is linked with text/ and those rules alone. */
+/* The parts of the lister and of the maker of cases. Both are written from docs/RULES.md, "Listing program", "Sender
+   program" and "The page", on top of the second program's rules of a table, a record, a run, a cell and a point; they
+   share nothing with the programs that they test. The lister is linked with text/ and those rules alone. */
 
 #ifndef LISTING_LISTING_H
 #define LISTING_LISTING_H
@@ -9,7 +9,10 @@
 #include "../second/kinds/lent.h"
 #include "../second/rules/page.h"
 
-enum { MOST_CAPTURE = 300000 }; /* the bytes of the longest capture that is made */
+enum {
+    MOST_CAPTURE = 300000, /* the bytes of the longest capture that is made */
+    F32_SIZE = 4           /* the bytes of a coefficient in a file */
+};
 
 /* What came for each place, and how many takes are refused. */
 struct gathering {
@@ -35,6 +38,9 @@ void gather_run(struct gathering *to, const uint8_t *run, uint64_t size);
 void cell_of(const struct gathering *from, uint64_t place, uint8_t *cell);
 struct reading reading_of(const struct table *table, const struct gathering *from, uint64_t place);
 
+/* text/reading.c: the bytes of a file */
+uint64_t read_file(const char *path, uint8_t *to, uint64_t room);
+
 /* text/lines.c: the listing */
 void point_shown(struct reading reading, int32_t *point);
 void print_listing(const struct table *table, const struct gathering *from);
@@ -55,6 +61,9 @@ void hold_to_take(const struct table *table, const struct capture *capture, cons
 /* cases/contents.c: an error of the test itself if a capture lacks something that it must hold */
 void require_contents(const struct table *table, const struct capture *capture);
 
+/* making/run.c: the bytes of a run of coefficients */
+void put_run(uint8_t *to, const uint32_t *run, uint64_t length);
+
 /* making/files.c: the files of a case */
 struct bytes {
     const uint8_t *bytes; /* none: no file */
@@ -66,19 +75,34 @@ struct stored_case {
     struct bytes records;
     const char *text; /* the listing; none: not known here */
 };
+struct sent_case {
+    struct stored_case listed; /* as a case of the listing; its records are what a sender must write */
+    struct bytes coefficients;
+    const char *refused; /* what a sender must print; none: nothing */
+};
+void write_file(const char *folder, const char *name, struct bytes bytes);
+void write_text(const char *folder, const char *name, const char *text);
 void write_case(const char *folder, const struct stored_case *stored);
 void write_cases(const char *folder, const struct stored_case *cases, uint64_t number);
+void write_sent_case(const char *folder, const struct sent_case *sent);
 
-/* What is written down of a case: a file that has the bytes of an array, and the bytes of a record. */
+/* What is written down of a case: a file that has the bytes of an array, a number of four bytes, the bits of an f32,
+   and a record. */
 #define BYTES(array) {array, sizeof(array)}
-#define RECORD(place, row, number, codeword)                                                                                               \
-    (uint8_t)((place) >> 8), (uint8_t)(place), row, number, /* high byte first */                                                          \
-        (uint8_t)((codeword) >> 24), (uint8_t)((codeword) >> 16), (uint8_t)((codeword) >> 8), (uint8_t)(codeword)
+#define FOUR_BYTES(number)                                                                                                                 \
+    (uint8_t)((number) >> 24), (uint8_t)((number) >> 16), (uint8_t)((number) >> 8), (uint8_t)(number) /* high byte first */
+#define F32(bits) FOUR_BYTES(bits)
+#define RECORD(place, row, number, codeword) (uint8_t)((place) >> 8), (uint8_t)(place), row, number, FOUR_BYTES(codeword)
 
 /* Cases of a few bytes, with their listings. Those of the files and of what is taken are in cases/small_cases.c, those
-   of bad tables in cases/table_cases.c, and those of what a place shows in cases/place_cases.c. */
+   of bad tables in cases/table_cases.c, those of what a place shows in cases/place_cases.c, and those of a sender in
+   cases/sent_cases.c. */
 void make_small_cases(const char *folder);
 void make_table_cases(const char *folder);
 void make_place_cases(const char *folder);
+void make_sent_cases(const char *folder);
+
+/* cases/sent_full.c: the case `sent_full` */
+void make_sent_full(const char *folder);
 
 #endif

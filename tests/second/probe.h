@@ -1,4 +1,4 @@
-/* The calls under test, as a sender or a slate would link them. Any archive that has these thirteen can be held to
+/* The calls under test, as a sender or a slate would link them. Any archive that has these fourteen can be held to
    the second program. The refusal numbers and the order of checks are those of docs/RULES.md, "Refusal numbers" and
    "Order of checks". */
 
@@ -35,7 +35,7 @@ uint64_t probe_quantize_value(const uint8_t *table, uint64_t table_length, uint6
 
 /* Of the calls below, those with `which` answer a list and give its item of that number; an item past the end of
    the list is 0. A refusal is the list of its number and what the rules name with it: the row of 7, and in the
-   tally the place of 12. */
+   tally the place of 12. In send 11 names the place and then the coordinate. */
 
 /* The list 0, and the record is taken into the page; or refused 7, 4, 8, 12, and the page is as it was. */
 uint64_t probe_take(const uint8_t *table, uint64_t table_length, uint8_t *page, uint64_t page_length, const uint8_t *record,
@@ -61,5 +61,10 @@ float probe_coefficient_value(const uint8_t *table, uint64_t table_length, const
 
 /* The list 0, sound, mended, missing, contested, unreadable: how many places have each answer; or refused 7, 4, 12. */
 uint64_t probe_tally(const uint8_t *table, uint64_t table_length, const uint8_t *page, uint64_t page_length, uint64_t which);
+
+/* The list 0, and the records of all places in `buffer`; or refused 7, 4, 11, and `buffer` as it was. The run has
+   the coefficients of all places in order. */
+uint64_t probe_send(const uint8_t *table, uint64_t table_length, const float *run, uint64_t run_length, uint8_t *buffer,
+                    uint64_t buffer_length, uint64_t which);
 
 #endif

@@ -1,13 +1,14 @@
 -- A check for each number, as a loop goes through them: from i on there are n - i of n left. While they pass, what
--- is left decides; and all pass exactly when each does.
+-- is left decides; the first that fails is told; and all pass exactly when each does.
 use Prim.Native.Nat.{ℕ, zero, suc, _+_, _-_, _≤_, _<_}
-use mathlib.Core.Path.{_≡_, ap, _∙_}
+use mathlib.Core.Path.{_≡_, sym, ap, _∙_}
 use mathlib.Core.List.{List, _∷_}
 use mathlib.Core.Bool.{true, false}
+use native.Mathlib.Nat.{sub-zero, zero-add}
 use native.Mathlib.Omega.{arith}
 use native.Mathlib.Decide.{decLt}
 use Rattle.answers.specs.Checks.{Check, firstOf, eachFrom, Passes}
-use Rattle.answers.proofs.InOrder.{Numbered}
+use Rattle.answers.proofs.InOrder.{Numbered, passes-says}
 
 module _ (c : ℕ → Check) where
   -- some are left
@@ -40,6 +41,18 @@ module _ (c : ℕ → Check) where
   pub passes-each : (i n : ℕ) → ((j : ℕ) → i ≤ j → j < i + n → c j .fails ≡ false) → Passes (eachFrom c i n)
   passes-each i zero p = tt
   passes-each i (suc n) p = (p i (omega arith) (omega arith), passes-each (suc i) n (λ j from to. p j (omega arith) (omega arith)))
+
+  -- the first that fails is told, and where none does, the answer
+  pub first-refused : (answer : List ℕ) (j n : ℕ) → j < n → ((i : ℕ) → i < j → c i .fails ≡ false) → c j .fails ≡ true
+      → firstOf (eachFrom c 0 n) answer ≡ c j .number ∷ c j .values
+  first-refused answer j n below before here = ap (λ (m : ℕ). firstOf (eachFrom c 0 m) answer) (sym (sub-zero n)) ∙ to j 0 (zero-add j)
+    where
+      to : (k i : ℕ) → i + k ≡ j → firstOf (eachFrom c i (n - i)) answer ≡ c j .number ∷ c j .values
+      to zero i e = let same : i ≡ j = omega arith in rw same (each-refused answer j n below here)
+      to (suc k) i e = each-passed answer i n (omega arith) (before i (omega arith)) ∙ to k (suc i) (omega arith)
+
+  pub none-refused : (answer : List ℕ) (n : ℕ) → ((i : ℕ) → i < n → c i .fails ≡ false) → firstOf (eachFrom c 0 n) answer ≡ answer
+  none-refused answer n before = passes-says answer (eachFrom c 0 n) (passes-each 0 n (λ j from to. before j (omega arith)))
 
   pub each-numbered : (i n : ℕ) → ((j : ℕ) → 0 < c j .number) → Numbered (eachFrom c i n)
   each-numbered i zero p = tt

@@ -124,7 +124,7 @@ refusal-leaves made held a cs r e =
 -- Checks cs, and then checks ds: a refusal of cs stands and leaves a lent buffer as it was, and where cs pass, ds
 -- decide.
 module _ (cs ds : List Check) where
-  says-then : (answer : List ℕ) → firstOf (cs ++ ds) answer ≡ firstOf cs (firstOf ds answer)
+  pub says-then : (answer : List ℕ) → firstOf (cs ++ ds) answer ≡ firstOf cs (firstOf ds answer)
   says-then answer = go cs
     where
       go : (es : List Check) → firstOf (es ++ ds) answer ≡ firstOf es (firstOf ds answer)

@@ -1,4 +1,5 @@
 pub mod OneToOne
+pub mod Printed
 pub mod InOrder
 pub mod Each
 pub mod OneNumber

@@ -14,6 +14,10 @@ pub each-of : (c : ℕ → Check) (n i m : ℕ) → ((j : ℕ) → c j .number �
 each-of c n i zero p = tt
 each-of c n i (suc m) p = (p i, each-of c n (suc i) m p)
 
+pub of-then : (n : ℕ) (cs ds : List Check) → OfNumber n cs → OfNumber n ds → OfNumber n (cs ++ ds)
+of-then n [] ds p q = q
+of-then n (c ∷ cs) ds p q = (p .0, of-then n cs ds (p .1) q)
+
 -- whatever is checked after them
 pub one-number : (answer : List ℕ) (n : ℕ) (cs ds : List Check) → OfNumber n cs
     → numberSaid (firstOf (cs ++ ds) answer) ≡ numberSaid (pick (anyOf (failsOf cs)) (n ∷ []) (firstOf ds answer))

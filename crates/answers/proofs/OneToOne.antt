@@ -11,7 +11,13 @@ use Rattle.answers.specs.declared.Refusal.{Refusal}
 use Rattle.answers.specs.declared.Refusal.the-variants as refusal
 use Rattle.answers.specs.declared.Verdict.{Verdict}
 use Rattle.answers.specs.declared.Verdict.the-variants as verdict
-use Rattle.answers.specs.Refusals.{meaning, verdictMeaning}
+use Rattle.answers.specs.Refusals.{meaning, numberOf, firstNamed, verdictMeaning}
+
+-- 11 names a coordinate, or a place and a coordinate
+coefficientOf : List ℕ → Refusal
+coefficientOf [] = refusal.LengthOutside
+coefficientOf (i ∷ []) = refusal.UnusableCoefficient i
+coefficientOf (p ∷ i ∷ vs) = refusal.UnusableCoefficientAt p i
 
 -- 12 names a place or none
 cellOf : List ℕ → Refusal
@@ -32,7 +38,7 @@ byNumber vs =
     ∷ refusal.NoSuchPlace
     ∷ refusal.LengthOutside
     ∷ refusal.LengthOutside
-    ∷ refusal.UnusableCoefficient (getD vs 0 0)
+    ∷ coefficientOf vs
     ∷ cellOf vs
     ∷ refusal.NoSuchCoordinate
     ∷ []
@@ -53,7 +59,7 @@ says-back : {r : Refusal} (n : ℕ) (vs : List ℕ) → meaning r ≡ suc n ∷ 
 says-back n vs says back two = record { before = n; values = vs; says = says; back = back; two = two }
 
 pub said : (r : Refusal) → Said r
-unfolding refusalOf byNumber cellOf
+unfolding refusalOf byNumber coefficientOf cellOf
 said refusal.LengthOutside = says-back 0 [] refl refl (lit≤ tt)
 said refusal.RadiusAbove = says-back 1 [] refl refl (lit≤ tt)
 said refusal.ShellTooLarge = says-back 2 [] refl refl (lit≤ tt)
@@ -63,9 +69,18 @@ said refusal.IndexPastEnd = says-back 5 [] refl refl (lit≤ tt)
 said (refusal.BadTable row) = says-back 6 (row ∷ []) refl refl (lit≤ tt)
 said refusal.NoSuchPlace = says-back 7 [] refl refl (lit≤ tt)
 said (refusal.UnusableCoefficient coordinate) = says-back 10 (coordinate ∷ []) refl refl (lit≤ tt)
+said (refusal.UnusableCoefficientAt place coordinate) = says-back 10 (place ∷ coordinate ∷ []) refl refl (lit≤ tt)
 said refusal.BadCell = says-back 11 [] refl refl (lit≤ tt)
 said (refusal.BadCellAt place) = says-back 11 (place ∷ []) refl refl (lit≤ tt)
 said refusal.NoSuchCoordinate = says-back 12 [] refl refl (lit≤ tt)
+
+-- 7 is the refusal of a table
+pub of-7 : (r : Refusal) → numberOf r ≡ 7 → r ≡ refusal.BadTable (firstNamed r)
+unfolding refusalOf byNumber
+of-7 r is =
+    let s = said r in
+    let seven : suc (s .before) ≡ 7 = ap (λ (vs : List ℕ). getD vs 0 0) (sym (s .says)) ∙ is in
+    sym (rw seven at (s .back)) ∙ ap (λ (vs : List ℕ). refusal.BadTable (getD vs 1 0)) (sym (s .says))
 
 -- what can be read back is one to one
 pub one-to-one : {A : Type 0} (says : A → List ℕ) (back : List ℕ → A) → ((a : A) → back (says a) ≡ a) → (a b : A) → says a ≡ says b → a ≡ b

@@ -6,7 +6,7 @@ use mathlib.Core.List.{[], _∷_}
 use mathlib.Core.Bool.{Bool, true, false}
 use lib.Dec.{ltb}
 use Rattle.answers.specs.Checks.{Check, anyOf, firstOf, leaves, numberSaid, wrongLength, lengthCheck, eachFrom}
-use Rattle.answers.specs.Refusals.{meaning, numberOf, firstNamed, secondNamed}
+use Rattle.answers.specs.Refusals.{meaning, numberOf, firstNamed, secondNamed, namedBy, printed}
 use Rattle.answers.specs.declared.Refusal.the-variants as refusal
 
 -- a check of number 4, and one of number 11 that names i, from 5 on failing
@@ -45,6 +45,7 @@ pub record Example : Type 0 where
   pub refusal-7 : meaning (refusal.BadTable 30) ≡ 7 ∷ 30 ∷ []
   pub refusal-8 : numberOf refusal.NoSuchPlace ≡ 8
   pub refusal-11 : meaning (refusal.UnusableCoefficient 15) ≡ 11 ∷ 15 ∷ []
+  pub refusal-11-at : meaning (refusal.UnusableCoefficientAt 4095 15) ≡ 11 ∷ 4095 ∷ 15 ∷ []
   pub refusal-12 : meaning refusal.BadCell ≡ 12 ∷ []
   pub refusal-12-at : meaning (refusal.BadCellAt 4095) ≡ 12 ∷ 4095 ∷ []
   pub refusal-13 : numberOf refusal.NoSuchCoordinate ≡ 13
@@ -53,3 +54,11 @@ pub record Example : Type 0 where
   pub place-named : firstNamed (refusal.BadCellAt 4095) ≡ 4095
   pub nothing-named : firstNamed refusal.BufferLength ≡ 0
   pub one-named : secondNamed (refusal.BadTable 30) ≡ 0
+  pub two-named : secondNamed (refusal.UnusableCoefficientAt 4095 15) ≡ 15
+  pub names-none : namedBy refusal.BufferLength ≡ 0
+  pub names-one : namedBy (refusal.BadTable 30) ≡ 1
+  pub names-two : namedBy (refusal.UnusableCoefficientAt 4095 15) ≡ 2
+  -- what is printed of them
+  pub number-printed : printed (meaning refusal.BufferLength) ≡ 4 ∷ []
+  pub row-not-printed : printed (meaning (refusal.BadTable 30)) ≡ 7 ∷ []
+  pub two-printed : printed (meaning (refusal.UnusableCoefficientAt 4095 15)) ≡ 11 ∷ 4095 ∷ 15 ∷ []

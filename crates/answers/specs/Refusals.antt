@@ -1,8 +1,8 @@
 -- What a refusal says: its number in the table of docs/RULES.md, "Refusal numbers", then the values that the table
--- names (for 12, the place that the tally names), at most two.
+-- names (for 11 and 12, the place that a call for a whole page names, too), at most two.
 use Prim.Native.Nat.{ℕ}
 use mathlib.Core.List.{List, [], _∷_}
-use lib.ListN.{getD}
+use lib.ListN.{length, getD, drop}
 use Rattle.answers.specs.declared.Refusal.{Refusal}
 use Rattle.answers.specs.declared.Refusal.the-variants as refusal
 use Rattle.answers.specs.declared.Verdict.{Verdict}
@@ -18,6 +18,7 @@ meaning refusal.IndexPastEnd = 6 ∷ []
 meaning (refusal.BadTable row) = 7 ∷ row ∷ []
 meaning refusal.NoSuchPlace = 8 ∷ []
 meaning (refusal.UnusableCoefficient coordinate) = 11 ∷ coordinate ∷ []
+meaning (refusal.UnusableCoefficientAt place coordinate) = 11 ∷ place ∷ coordinate ∷ []
 meaning refusal.BadCell = 12 ∷ []
 meaning (refusal.BadCellAt place) = 12 ∷ place ∷ []
 meaning refusal.NoSuchCoordinate = 13 ∷ []
@@ -32,6 +33,17 @@ firstNamed r = getD (meaning r) 1 0
 
 abbrev pub secondNamed : Refusal → ℕ
 secondNamed r = getD (meaning r) 2 0
+
+-- how many it names
+abbrev pub namedBy : Refusal → ℕ
+namedBy r = length (drop 1 (meaning r))
+
+-- what a program prints of a refusal that says this: its number, and the values that it names if it names two
+abbrev pub printed : List ℕ → List ℕ
+printed [] = []
+printed (n ∷ []) = n ∷ []
+printed (n ∷ v ∷ []) = n ∷ []
+printed (n ∷ p ∷ i ∷ vs) = n ∷ p ∷ i ∷ []
 
 -- what a check answers that has nothing to tell but whether it passed
 abbrev pub verdictMeaning : Verdict → List ℕ

@@ -1,7 +1,7 @@
 // The refusals of docs/RULES.md, "Refusal numbers": one enum for every call. A case carries what the table says
 // that the refusal names; `meaning` in specs/Refusals.antt gives each case the number and the values of the rules.
 ghost use mathlib.Core.Path.{_≡_};
-ghost use Rattle.answers.specs.Refusals.{numberOf, firstNamed, secondNamed};
+ghost use Rattle.answers.specs.Refusals.{numberOf, firstNamed, secondNamed, namedBy};
 
 pub enum Refusal {
     // 1: length outside 1 to 16
@@ -22,6 +22,8 @@ pub enum Refusal {
     NoSuchPlace,
     // 11: unusable coefficient, with the first coordinate at fault
     UnusableCoefficient { coordinate: usize },
+    // 11 as send gives it, with the lowest place at fault, and its first coordinate at fault
+    UnusableCoefficientAt { place: usize, coordinate: usize },
     // 12: state byte above 2, or a held record with another place number, at the place that the call looks at
     BadCell,
     // 12 as the tally gives it, with the lowest such place
@@ -30,9 +32,9 @@ pub enum Refusal {
     NoSuchCoordinate,
 }
 
-// A refusal in numbers: its own, and those of the row, coordinate or place that it names, at most two; 0 where it
-// names none.
-pub struct Numbers(pub u32, pub usize, pub usize);
+// A refusal in numbers: its own; those of the row, coordinate or place that it names, at most two, with 0 where it
+// names none; and how many it names.
+pub struct Numbers(pub u32, pub usize, pub usize, pub usize);
 
 // What a check answers that has nothing to tell but whether it passed.
 pub enum Verdict {
@@ -41,21 +43,22 @@ pub enum Verdict {
 }
 
 pub fn in_numbers(refusal: Refusal) -> Numbers
-    ensures { λ n. ⌜ (n .0 ≡ numberOf refusal) × (n .1 ≡ firstNamed refusal) × (n .2 ≡ secondNamed refusal) ⌝ }
+    ensures { λ n. ⌜ (n .0 ≡ numberOf refusal) × (n .1 ≡ firstNamed refusal) × (n .2 ≡ secondNamed refusal) × (n .3 ≡ namedBy refusal) ⌝ }
 {
     match refusal {
-        Refusal::LengthOutside => Numbers(1, 0, 0),
-        Refusal::RadiusAbove => Numbers(2, 0, 0),
-        Refusal::ShellTooLarge => Numbers(3, 0, 0),
-        Refusal::BufferLength => Numbers(4, 0, 0),
-        Refusal::MagnitudeSum => Numbers(5, 0, 0),
-        Refusal::IndexPastEnd => Numbers(6, 0, 0),
-        Refusal::BadTable { row } => Numbers(7, row, 0),
-        Refusal::NoSuchPlace => Numbers(8, 0, 0),
-        Refusal::UnusableCoefficient { coordinate } => Numbers(11, coordinate, 0),
-        Refusal::BadCell => Numbers(12, 0, 0),
-        Refusal::BadCellAt { place } => Numbers(12, place, 0),
-        Refusal::NoSuchCoordinate => Numbers(13, 0, 0),
+        Refusal::LengthOutside => Numbers(1, 0, 0, 0),
+        Refusal::RadiusAbove => Numbers(2, 0, 0, 0),
+        Refusal::ShellTooLarge => Numbers(3, 0, 0, 0),
+        Refusal::BufferLength => Numbers(4, 0, 0, 0),
+        Refusal::MagnitudeSum => Numbers(5, 0, 0, 0),
+        Refusal::IndexPastEnd => Numbers(6, 0, 0, 0),
+        Refusal::BadTable { row } => Numbers(7, row, 0, 1),
+        Refusal::NoSuchPlace => Numbers(8, 0, 0, 0),
+        Refusal::UnusableCoefficient { coordinate } => Numbers(11, coordinate, 0, 1),
+        Refusal::UnusableCoefficientAt { place, coordinate } => Numbers(11, place, coordinate, 2),
+        Refusal::BadCell => Numbers(12, 0, 0, 0),
+        Refusal::BadCellAt { place } => Numbers(12, place, 0, 1),
+        Refusal::NoSuchCoordinate => Numbers(13, 0, 0, 0),
     }
 }
 

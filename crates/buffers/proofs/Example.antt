@@ -2,8 +2,10 @@
 use mathlib.Core.Path.{refl}
 use lib.Dec.{lit≤}
 use Rattle.buffers.specs.Example.{Example}
+use Rattle.buffers.specs.Joined.{joined}
 
 pub example : Example
+unfolding joined
 example = record {
   none = refl;
   one = refl;
@@ -11,4 +13,6 @@ example = record {
   from-0 = refl;
   whole = refl;
   two-of-three = record { ends = refl; made = refl; to = lit≤ tt };
+  three-joined = refl;
+  none-joined = refl;
 }

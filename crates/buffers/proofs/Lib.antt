@@ -1,3 +1,4 @@
 pub mod Example
 pub mod Writing
 pub mod Reading
+pub mod Joining

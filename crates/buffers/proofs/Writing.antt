@@ -6,17 +6,18 @@
 --                                                    before one
 --     all-written, all-with, all-behind              the whole buffer is written: any, a constant, an element and
 --                                                    others behind it
---     wrote-none, wrote-one, wrote-all               a text is written: nothing, one element, all that a loop wrote
+--     wrote-none, wrote-one, wrote-part, wrote-all   a text is written: nothing, one element, a part that was lent, all
+--                                                    that a loop wrote
 --     wrote-then, wrote-to, wrote-length             one text behind another; another bound; the buffer is as long
 --                                                    as before
 use Prim.Native.Nat.{ℕ, zero, suc, _+_, _≤_, _<_}
-use mathlib.Core.List.{List, [], _∷_, _++_, map, append-nil}
+use mathlib.Core.List.{List, [], _∷_, _++_, map, append-nil, append-assoc}
 use mathlib.Core.Path.{_≡_, refl, sym, ap, _∙_}
 use native.Mathlib.Nat.{add-zero, zero-add}
 use native.Mathlib.Numerals.{add-one}
 use native.Mathlib.Omega.{arith}
 use lib.ListN.{length, getD, set, take, drop, replicate, length-append, length-map, length-replicate, getD-replicate, drop-of-length-le, List·getD-map}
-use lib.Seq.{length-sets, sets-eq, getD-set-other, take-all, take-length}
+use lib.Seq.{length-sets, sets-eq, getD-set-other, take-all, take-length, drop-drop}
 use Rattle.buffers.specs.Written.{written, Wrote}
 
 module _ {A : Type 0} where
@@ -80,6 +81,17 @@ module _ {A : Type 0} where
 
   pub wrote-one : (held : List A) (at : ℕ) (x : A) → Wrote held at (x ∷ []) 1 (at + 1) (set held at x)
   wrote-one held at x = record { ends = refl; made = refl; to = omega arith }
+
+  -- a part of the buffer that was lent and written whole
+  pub wrote-part : (held part : List A) (at n : ℕ) → length part ≡ n → at + n ≤ length held
+      → Wrote held at part n (at + n) (take at held ++ (part ++ drop n (drop at held)))
+  wrote-part held part at n size room = record {
+    ends = omega arith;
+    made =
+        rw (← size, drop-drop (length part) at held)
+        (sym (written-between held part at (omega arith) ∙ append-assoc (take at held) part (drop (at + length part) held)));
+    to = omega arith;
+  }
 
   pub wrote-all : {held so-far : List A} {at i : ℕ} (text : List A) → i ≡ length text → so-far ≡ written held at text i
       → Wrote held at text (length text) (at + i) so-far

@@ -1,2 +1,3 @@
 pub mod Written
+pub mod Joined
 pub mod Example

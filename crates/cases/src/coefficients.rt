@@ -1,20 +1,18 @@
-// The cases of the call quantize, and of the whole number that a coefficient becomes. A coefficient is given by its
-// bit pattern. The record is lent full of nines, so that a refused call is seen to leave it.
+// The cases of the calls quantize and send, and of the whole number that a coefficient becomes. A coefficient is given
+// by its bit pattern. A buffer is lent full of nines, so that a refused call is seen to leave it.
 use crate::checks;
 use answers::Refusal;
+use floats::inner::from_pattern;
 use floats::inner::is_unusable;
 use floats::inner::nearest_whole;
 use quantizer::Quantized;
 use script::input::number;
 use script::output;
+use sending::Sending;
 
-// The low 32 bits as a coefficient. The patterns of NaN are beyond that of infinity.
+// The low 32 bits as a coefficient.
 fn coefficient(n: u64) -> f32 {
-    let bits = (n % 4294967296) as u32;
-    if 2139095040 < bits % 2147483648 {
-        return 0.0 / 0.0;
-    }
-    f32::from_bits(bits)
+    from_pattern((n % 4294967296) as u32)
 }
 
 // nearest B: the magnitude of the whole number nearest to 256 times the coefficient.
@@ -28,21 +26,22 @@ pub fn nearest(numbers: &[u64]) {
 }
 
 // quantize P B C, then C coefficients and a table: what the call says of place P with a record of B bytes, and what
-// these are then.
-pub fn quantize(numbers: &[u64], room: &mut [u8]) {
+// these are then. Send 0 B C, then the same: what the call says of the page with a buffer of B bytes, and what these
+// are then. The letter tells the call.
+pub fn run(call: u8, numbers: &[u64], room: &mut [u8]) {
     let mut coefficients = [0.0f32; 20];
     let count = number(numbers, 2) as usize;
     if count <= 20 {
-        with_vector(numbers, &mut coefficients[..count], room);
+        with_vector(call, numbers, &mut coefficients[..count], room);
     }
 }
 
-fn with_vector(numbers: &[u64], coefficients: &mut [f32], room: &mut [u8]) {
+fn with_vector(call: u8, numbers: &[u64], coefficients: &mut [f32], room: &mut [u8]) {
     fill(numbers, coefficients);
     let first = 3 + coefficients.len();
     let size = number(numbers, first) as usize;
     if size <= room.len() {
-        with_table(numbers, first + 1, coefficients, &mut room[..size]);
+        with_table(call, numbers, first + 1, coefficients, &mut room[..size]);
     }
 }
 
@@ -54,17 +53,25 @@ fn fill(numbers: &[u64], coefficients: &mut [f32]) {
     }
 }
 
-fn with_table(numbers: &[u64], first: usize, coefficients: &[f32], table: &mut [u8]) {
+fn with_table(call: u8, numbers: &[u64], first: usize, coefficients: &[f32], table: &mut [u8]) {
     checks::make(table, numbers, first);
-    let mut record = [9; 12];
+    let mut out = [9; 40];
     let size = number(numbers, 1) as usize;
-    if size <= 12 {
-        quantized(
+    if size <= 40 {
+        called(
+            call,
             table,
             number(numbers, 0) as usize,
             coefficients,
-            &mut record[..size],
+            &mut out[..size],
         );
+    }
+}
+
+fn called(call: u8, table: &[u8], place: usize, coefficients: &[f32], out: &mut [u8]) {
+    match call {
+        b'q' => quantized(table, place, coefficients, out),
+        _ => sent(table, coefficients, out),
     }
 }
 
@@ -72,6 +79,15 @@ fn quantized(table: &[u8], place: usize, coefficients: &[f32], out: &mut [u8]) {
     match quantizer::quantize(table, place, coefficients, out) {
         Quantized::Written => output::said(0),
         Quantized::Refused(refusal) => output::refused(refusal),
+    }
+    output::colon();
+    bytes(out);
+}
+
+fn sent(table: &[u8], run: &[f32], out: &mut [u8]) {
+    match sending::send(table, run, out) {
+        Sending::Written => output::said(0),
+        Sending::Refused(refusal) => output::refused(refusal),
     }
     output::colon();
     bytes(out);

@@ -54,7 +54,7 @@ fn case(line: &[u8], numbers: &[u64], room: &mut [u8]) {
         b't' => checks::check(numbers, room),
         b'r' => checks::place(numbers, room),
         b'n' => coefficients::nearest(numbers),
-        b'q' => coefficients::quantize(numbers, room),
+        b'q' | b'S' => coefficients::run(letter, numbers, room),
         b'T' | b'C' | b'R' | b'V' | b'A' => pages::run(letter, numbers, room),
         _ => (),
     }

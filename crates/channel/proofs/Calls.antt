@@ -16,6 +16,9 @@ use Rattle.pairing.specs.Meanings.{checkMeaning}
 use Rattle.pairing.proofs.OneToOne.{check-one-to-one}
 use Rattle.quantizer.specs.Calls.{quantizeChecks, quantizeMeaning, quantizeSays, recordFor}
 use Rattle.quantizer.proofs.OneToOne.{quantize-one-to-one}
+use Rattle.runs.specs.Sending.{recordsOf, sendChecks, sendSays}
+use Rattle.sending.specs.Meanings.{sendMeaning}
+use Rattle.sending.proofs.OneToOne.{send-one-to-one}
 use Rattle.rules.specs.Taking.{takeChecks, takeInto, takeSays}
 use Rattle.rules.specs.Judging.{judgeAt, answerNumber, reasonOf}
 use Rattle.rules.specs.Reading.{pointAt, carriedBy, readChecks, readSays, coefficientChecks}
@@ -24,8 +27,8 @@ use Rattle.page.specs.Meanings.{takeMeaning, readMeaning, tallyMeaning}
 use Rattle.page.proofs.OneToOne.{take-one-to-one, read-one-to-one, coefficient-one-to-one, tally-one-to-one}
 use Rattle.report.specs.Calls.{startingWith, noRoom, linesFit, linesChecks, linesText, linesSays, lineSays, listedMeaning, linedMeaning}
 use Rattle.report.proofs.OneToOne.{listed-one-to-one, lined-one-to-one}
-use Rattle.channel.specs.Demand1.{withTable, quantizeConditions, takeConditions, readConditions, coefficientConditions, tallyConditions, linesConditions, Determined, Demand1}
-use Rattle.channel.proofs.Conditions.{alike, check-alike, quantize-alike, take-alike, read-alike, coefficient-alike, tally-alike, lines-alike}
+use Rattle.channel.specs.Demand1.{withTable, quantizeConditions, sendConditions, takeConditions, readConditions, coefficientConditions, tallyConditions, linesConditions, Determined, Demand1}
+use Rattle.channel.proofs.Conditions.{alike, check-alike, quantize-alike, send-alike, take-alike, read-alike, coefficient-alike, tally-alike, lines-alike}
 use Rattle.channel.proofs.Refusing.{refusing, unchanged}
 
 determined : {A : Type 0} (meaningOf : A → List ℕ) (says : List ℕ) → ((r r′ : A) → meaningOf r ≡ meaningOf r′ → r ≡ r′) → Determined meaningOf says
@@ -57,6 +60,10 @@ demand-1 = record {
       (quantize-alike t p w (length out));
   quantize-unchanged = λ t p w out. unchanged [] (quantizeChecks t p w (length out)) (recordFor t p w) out;
   quantize-determined = λ t p w out. determined quantizeMeaning (quantizeSays t p w out) quantize-one-to-one;
+  send = λ t run out.
+      refusing [] (sendChecks t run (length out)) (withTable t (sendConditions t run (length out))) refl refl (send-alike t run (length out));
+  send-unchanged = λ t run out. unchanged [] (sendChecks t run (length out)) (recordsOf t run) out;
+  send-determined = λ t run out. determined sendMeaning (sendSays t run out) send-one-to-one;
   take = λ t pg x. refusing [] (takeChecks t pg x) (withTable t (takeConditions t pg x)) refl refl (take-alike t pg x);
   take-unchanged = λ t pg x. unchanged [] (takeChecks t pg x) (takeInto pg x) pg;
   take-determined = λ t pg x. determined takeMeaning (takeSays t pg x) take-one-to-one;

@@ -13,12 +13,15 @@ use Rattle.tables.proofs.Seven.{table-of-7}
 use Rattle.records.specs.Record.{recordCheck, placeIn}
 use Rattle.coefficients.specs.Coefficients.{usableCheck, usableChecks}
 use Rattle.quantizer.specs.Calls.{quantizeRest, quantizeChecks}
+use Rattle.runs.specs.Run.{coordinatesIn}
+use Rattle.runs.specs.Sending.{runChecks, recordsLength, sendChecks}
+use Rattle.runs.proofs.Judging.{run-of-11}
 use Rattle.layout.specs.Layout.{cellAt}
 use Rattle.rules.specs.Taking.{pageCheck, cellCheck, cellCheckAt, pageChecks, lookChecks, takeRest, takeChecks}
 use Rattle.rules.specs.Reading.{readRest, readChecks, coefficientRest, coefficientChecks}
 use Rattle.rules.specs.Tallying.{tallyRest, tallyChecks}
 use Rattle.report.specs.Calls.{noRoom, linesFit, linesRest, linesChecks}
-use Rattle.channel.specs.Demand1.{condition, withTable, quantizeConditions, takeConditions, readConditions, coefficientConditions, tallyConditions, linesConditions}
+use Rattle.channel.specs.Demand1.{condition, withTable, quantizeConditions, sendConditions, takeConditions, readConditions, coefficientConditions, tallyConditions, linesConditions}
 
 -- the same number is said by both, whatever the answer
 pub record Alike (cs ds : List Check) : Type 0 where
@@ -69,6 +72,12 @@ module _ (t : List ℕ) where
       (behind (placeCheck t p)
       (grouped 4 (lengthCheck (length w) (lengthFor t p) ∷ recordCheck b ∷ []) (refl, (refl, tt))
       (grouped-last 11 (usableChecks w) (each-of (usableCheck w) 11 0 (length w) (λ j. refl)))))
+
+  pub send-alike : (run : List Float) (b : ℕ) → Alike (sendChecks t run b) (withTable t (sendConditions t run b))
+  send-alike run b =
+      grouped 7 (tableChecks t) (table-of-7 t)
+      (grouped 4 (lengthCheck (length run) (coordinatesIn t) ∷ lengthCheck b (recordsLength t) ∷ []) (refl, (refl, tt))
+      (grouped-last 11 (runChecks t run) (run-of-11 t run)))
 
   pub take-alike : (pg x : List ℕ) → Alike (takeChecks t pg x) (withTable t (takeConditions t pg x))
   take-alike pg x =

@@ -11,6 +11,9 @@ pub mod Arrived
 pub mod Sent
 pub mod Shown
 pub mod WholePage
+pub mod SendingParts
+pub mod SendingAccepted
+pub mod Sending
 pub mod Numbering
 pub mod Records
 pub mod Answers

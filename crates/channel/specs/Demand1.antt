@@ -19,6 +19,9 @@ use Rattle.pairing.specs.Meanings.{checkMeaning}
 use Rattle.records.specs.Record.{recordCheck, placeIn}
 use Rattle.coefficients.specs.Coefficients.{usableChecks}
 use Rattle.quantizer.specs.Calls.{quantizeChecks, quantizeLeaves, quantizeMeaning, quantizeSays}
+use Rattle.runs.specs.Run.{coordinatesIn}
+use Rattle.runs.specs.Sending.{runChecks, recordsLength, sendChecks, sendSays, sendLeaves}
+use Rattle.sending.specs.Meanings.{sendMeaning}
 use Rattle.layout.specs.Layout.{cellAt}
 use Rattle.rules.specs.Taking.{pageCheck, cellCheck, cellCheckAt, takeChecks, takeSays, takeLeaves}
 use Rattle.rules.specs.Reading.{readChecks, readSays, readLeaves, coordinateCheck, coefficientChecks, coefficientSays, coefficientCarries}
@@ -45,6 +48,12 @@ quantizeConditions t p w b =
     placeCheck t p
     ∷ condition 4 (lengthCheck (length w) (lengthFor t p) ∷ recordCheck b ∷ [])
     ∷ condition 11 (usableChecks w)
+    ∷ []
+
+abbrev pub sendConditions : List ℕ → List Float → ℕ → List Check
+sendConditions t run b =
+    condition 4 (lengthCheck (length run) (coordinatesIn t) ∷ lengthCheck b (recordsLength t) ∷ [])
+    ∷ condition 11 (runChecks t run)
     ∷ []
 
 abbrev pub takeConditions : List ℕ → List ℕ → List ℕ → List Check
@@ -117,6 +126,11 @@ pub record Demand1 : Type 0 where
       → Unchanged (quantizeSays t p w out) (quantizeLeaves t p w out) out
   pub quantize-determined : (t : List ℕ) (p : ℕ) (w : List Float) (out : List ℕ)
       → Determined quantizeMeaning (quantizeSays t p w out)
+  -- Send: 7, 4, 11
+  pub send : (t : List ℕ) (run : List Float) (out : List ℕ)
+      → Refusing (7 ∷ 4 ∷ 11 ∷ []) (withTable t (sendConditions t run (length out))) (sendChecks t run (length out)) (sendSays t run out)
+  pub send-unchanged : (t : List ℕ) (run : List Float) (out : List ℕ) → Unchanged (sendSays t run out) (sendLeaves t run out) out
+  pub send-determined : (t : List ℕ) (run : List Float) (out : List ℕ) → Determined sendMeaning (sendSays t run out)
   -- Take: 7, 4, 8, 12
   pub take : (t pg x : List ℕ) → Refusing (7 ∷ 4 ∷ 8 ∷ 12 ∷ []) (withTable t (takeConditions t pg x)) (takeChecks t pg x) (takeSays t pg x)
   pub take-unchanged : (t pg x : List ℕ) → Unchanged (takeSays t pg x) (takeLeaves t pg x) pg

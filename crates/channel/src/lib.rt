@@ -1,2 +1,3 @@
-// The three demands (docs/RULES.md, "Demands"), as theorems over what the calls' contracts say: specs/ states them,
-// a file for each demand, and proofs/ proves them. No function is here.
+// The three demands (docs/RULES.md, "Demands"), and what is promised of a page that is sent as a whole ("Sending a
+// page"), as theorems over what the calls' contracts say: specs/ states them, a file for each, and proofs/ proves
+// them. No function is here.

@@ -1,16 +1,17 @@
 -- Which bit patterns are refused: with the sign off, exactly those from that of 32,768 on, the infinities and every
--- NaN among them; 32,768 has the exponent field 142 and no digits.
+-- NaN among them; 32,768 has the exponent field 142 and no digits. And which are those of NaN: beyond infinity's.
 use Prim.Native.Nat.{ℕ, zero, suc, _+_, _*_, _/_, _%_, _^_, _≤_, _<_}
 use mathlib.Core.Path.{_≡_, refl, sym, ap, _∙_}
-use mathlib.Core.Bool.{Bool, true, false, cond}
+use mathlib.Core.Bool.{Bool, true, false, cond, false≢true}
 use native.Mathlib.Omega.{arith}
 use native.Mathlib.Nat.{le-trans, lt-of-lt-of-le, mul-le-mul, mul-le-mul-left, mul-lt-mul-of-pos-right, mod-lt}
 use native.Mathlib.Decide.{decLt}
-use borrow.Author.Tests.{le-leb, lt-leb, eq-eqb}
+use borrow.Author.Tests.{le-leb, lt-leb, lt-ltb, le-ltb, eq-eqb}
 use lib.Dec.{leb, eqb, lit<, lit≤}
 use lib.Pow.{pow-mono, pow-pos}
 use lib.Ieee as ieee
-use lib.Ieee.{Float, nan, inf, fin, binary32, ofBits, isNan}
+use lib.Ieee.{Float, nan, inf, fin, binary32, ofBits, isNan, nanBits}
+use lib.Ieee.Bits.{nanBits-is, nanBits-above}
 use lib.Ieee.Exact.{HasValue}
 use Rattle.floats.specs.Units.{ofFields, ofPattern, unitsOf, unusableCoefficient}
 use Rattle.floats.proofs.Value.{pattern-value, units-of-pattern}
@@ -78,3 +79,16 @@ module _ (bits : ℕ) (h : bits < 2 ^ 32) where
       go : Dec (bits % 2 ^ 31 / 2 ^ 23 < 142) → leb 142 (bits % 2 ^ 31 / 2 ^ 23) ≡ leb (142 * 2 ^ 23) (bits % 2 ^ 31)
       go (yes below) = lt-leb 142 (bits % 2 ^ 31 / 2 ^ 23) below ∙ sym (lt-leb (142 * 2 ^ 23) (bits % 2 ^ 31) (omega arith))
       go (no above) = le-leb 142 (bits % 2 ^ 31 / 2 ^ 23) (omega arith) ∙ sym (le-leb (142 * 2 ^ 23) (bits % 2 ^ 31) (omega arith))
+
+-- ---- the patterns of NaN
+the-nan : (x : Float) → isNan x ≡ true → x ≡ nan
+unfolding isNan
+the-nan nan h = refl
+the-nan (inf s) h = absurd (false≢true h)
+the-nan (fin s m e) h = absurd (false≢true h)
+
+pub nan-pattern : (bits : ℕ) → 255 * 2 ^ 23 < bits % 2 ^ 31 → ofBits binary32 bits ≡ nan
+nan-pattern bits beyond = the-nan (ofBits binary32 bits) (sym (nanBits-is binary32 bits) ∙ nanBits-above binary32 bits ∙ lt-ltb (255 * 2 ^ 23) (bits % 2 ^ 31) beyond)
+
+pub no-nan-pattern : (bits : ℕ) → bits % 2 ^ 31 ≤ 255 * 2 ^ 23 → nanBits binary32 bits ≡ false
+no-nan-pattern bits up-to = nanBits-above binary32 bits ∙ le-ltb (255 * 2 ^ 23) (bits % 2 ^ 31) up-to

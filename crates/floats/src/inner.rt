@@ -1,12 +1,23 @@
-// A coefficient, an f32 of any bit pattern: whether it can be used, its sign, and the whole number that it becomes;
-// and back, the f32 of a whole number over 256.
+// A coefficient, an f32 of any bit pattern: made of its pattern; whether it can be used, its sign, and the whole
+// number that it becomes; and back, the f32 of a whole number over 256.
 ghost use mathlib.Core.Path.{_≡_};
 ghost use mathlib.Core.Bool.{false};
 ghost use Prim.Native.Nat.{_^_, _≤_, _<_};
+ghost use lib.Ieee.{binary32, ofBits};
 ghost use lib.IntN.{natAbs};
 ghost use Rattle.floats.specs.Units.{unusableCoefficient, negative};
 ghost use Rattle.floats.specs.Nearest.{nearestWhole};
 ghost use Rattle.floats.specs.Exact.{over256};
+
+// The patterns of NaN are those beyond infinity's, with the sign off.
+pub fn from_pattern(bits: u32) -> f32
+    ensures { λ x. ⌜ x ≡ ofBits binary32 bits ⌝ }
+{
+    if 2139095040 < bits % 2147483648 {
+        return 0.0 / 0.0;
+    }
+    f32::from_bits(bits)
+}
 
 // A NaN is neither above nor below anything, so it falls through both comparisons.
 pub fn is_unusable(x: f32) -> bool

@@ -1,10 +1,10 @@
--- Records taken block by block: whole blocks so far, and one more.
-use Prim.Native.Nat.{ℕ, _+_, _*_}
+-- Records taken block by block: whole blocks so far, and one more; and how many takes of a block can be refused.
+use Prim.Native.Nat.{ℕ, _+_, _*_, _≤_}
 use mathlib.Core.List.{List, [], _++_}
 use mathlib.Core.Path.{_≡_, refl, sym, ap, ap₂, _∙_}
 use native.Mathlib.Omega.{arith}
 use lib.ListN.{length, length-append}
-use Rattle.rules.proofs.Blocks.{collected-then}
+use Rattle.rules.proofs.Blocks.{collected-to, collected-then}
 use Rattle.rules.proofs.Runs.{parts-none}
 use Rattle.rules.specs.Taking.{Received, after, collected}
 use Rattle.listing.specs.Took.{Took}
@@ -43,3 +43,7 @@ module _ {t pg left : List ℕ} {refused : ℕ} (so-far : TookWhole t pg left re
     records = so-far .records + n;
     whole = length-append (so-far .took .bytes) block ∙ omega (arith, so-far .whole, size);
   }
+
+-- a block of at most 65,536 bytes has at most 8,192 parts, so no more takes are refused
+pub refused-few : (t pg block : List ℕ) {refused : ℕ} → refused ≡ collected t pg block .refused → length block ≤ 65536 → refused ≤ 8192
+refused-few t pg block is-refused h = omega (arith, is-refused, collected-to t pg block)

@@ -4,10 +4,10 @@
 // by the calls; a missing file is empty, and so is one that cannot be opened, which standard error tells.
 mod inner;
 
-use inner::input::read_table;
+use files::inner::printing::print_refused;
+use files::inner::reading::read_table;
 use inner::input::take_records;
 use inner::output::print_page;
-use inner::output::print_refused;
 use layout::inner::PAGE_ROOM;
 use layout::inner::page_length;
 use pairing::Checked;

@@ -1,5 +1,5 @@
-// The calls of the page, exported to C for the second program alone. What a call says is a list: 0 and its values,
-// or a refusal's number and what it names. `which` picks an item of it; an item past the end is 0.
+// The calls of the page, and send, exported to C for the second program alone. What a call says is a list: 0 and its
+// values, or a refusal's number and what it names. `which` picks an item of it; an item past the end is 0.
 use answers::Refusal;
 use answers::in_numbers;
 use page::Answer;
@@ -8,6 +8,7 @@ use page::Reading;
 use page::Tallied;
 use page::Value;
 use page::Valued;
+use sending::Sending;
 ghost use mathlib.Core.Path.{_≡_};
 ghost use mathlib.Core.List.{_∷_, []};
 ghost use lib.ListN.{getD};
@@ -15,6 +16,8 @@ ghost use Rattle.answers.specs.Refusals.{meaning};
 ghost use Rattle.rules.specs.Taking.{takeSays, takeLeaves, collected};
 ghost use Rattle.rules.specs.Reading.{readSays, readLeaves, coefficientSays, coefficientCarries};
 ghost use Rattle.rules.specs.Tallying.{tallySays};
+ghost use Rattle.runs.specs.Sending.{sendSays, sendLeaves};
+ghost use Rattle.sending.specs.Meanings.{sendMeaning};
 ghost use Rattle.page.specs.Meanings.{takeMeaning, answerMeaning, readMeaning, valueMeaning, valuesIn, coefficientMeaning, coefficientValues, tallyMeaning};
 ghost use Rattle.probe.specs.Coded.{positiveZero};
 
@@ -48,6 +51,15 @@ fn take_item(answer: Arrival, which: usize) -> u64
     match answer {
         Arrival::Taken => told(0, 0, which),
         Arrival::Refused(refusal) => refused(refusal, which),
+    }
+}
+
+fn send_item(answer: Sending, which: usize) -> u64
+    ensures { λ r. ⌜ r ≡ getD (sendMeaning answer) which 0 ⌝ }
+{
+    match answer {
+        Sending::Written => told(0, 0, which),
+        Sending::Refused(refusal) => refused(refusal, which),
     }
 }
 
@@ -197,4 +209,13 @@ pub extern "C" fn probe_tally(table: &[u8], page: &[u8], which: usize) -> u64
     ensures { λ r. ⌜ r ≡ getD (tallySays (now (table .entry)) (now (page .entry))) which 0 ⌝ }
 {
     tally_item(page::tally(table, page), which)
+}
+
+// The call send.
+#[no_mangle]
+pub extern "C" fn probe_send(table: &[u8], run: &[f32], out: &mut [u8], which: usize) -> u64
+    ensures { λ r. ⌜ (r ≡ getD (sendSays (now (table .entry)) (now (run .entry)) (now (out .entry))) which 0)
+        × (now (out .exit) ≡ sendLeaves (now (table .entry)) (now (run .entry)) (now (out .entry))) ⌝ }
+{
+    send_item(sending::send(table, run, out), which)
 }

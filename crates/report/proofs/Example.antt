@@ -10,11 +10,11 @@ use Rattle.rules.specs.Taking.{badCell, takeCell, refusals, arrive, after, part
 use Rattle.rules.specs.Judging.{judgeCodeword, judgeRecord, judge}
 use Rattle.rules.specs.Tallying.{countOf}
 use Rattle.text.specs.Text.{decimal, digitsOf}
-use Rattle.report.specs.Listing.{linesFrom}
+use Rattle.buffers.specs.Joined.{joined}
 use Rattle.report.specs.Example.{Example}
 
 pub example : Example
-unfolding N binomial D S B sumAfter rangeSize rangeStart width bitsFrom rangeFrom rangeOf patternOf firstMagnitude shapeLeft shapeOf signsOf pointFrom pointWithin productPoint byteOf enumerationOf badRadius badRadii badRow rowAt placesBefore rowsBefore stateAt recordAt setCell badCell takeCell refusals arrive after partsFrom judgeCodeword judgeRecord judge countOf decimal digitsOf linesFrom
+unfolding N binomial D S B sumAfter rangeSize rangeStart width bitsFrom rangeFrom rangeOf patternOf firstMagnitude shapeLeft shapeOf signsOf pointFrom pointWithin productPoint byteOf enumerationOf badRadius badRadii badRow rowAt placesBefore rowsBefore stateAt recordAt setCell badCell takeCell refusals arrive after partsFrom judgeCodeword judgeRecord judge countOf decimal digitsOf joined
 example =
     record {
       whole-case = refl;
@@ -33,6 +33,7 @@ example =
       lines-12 = refl;
       lines-past-12 = refl;
       refused-leaves = refl;
+      two-printed = refl;
       last-line = refl;
       line-says = refl;
       line-leaves = refl;

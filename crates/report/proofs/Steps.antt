@@ -10,9 +10,10 @@ use lib.Dec.{lit<}
 use lib.ListN.{length, getD, take, drop}
 use lib.Seq.{take-append-seam}
 use Rattle.answers.proofs.Each.{passes-each, each-numbered}
+use Rattle.answers.proofs.OneToOne.{of-7}
 use Rattle.answers.proofs.InOrder.{Numbered, numbered-then, says-passes, passes-apart, passes-then, passes-fails, passes-says, passes-leaves, refusal-fails}
 use Rattle.answers.specs.Checks.{numberSaid, eachFrom, Passes}
-use Rattle.answers.specs.Refusals.{meaning, numberOf}
+use Rattle.answers.specs.Refusals.{meaning, numberOf, printed}
 use Rattle.answers.specs.declared.Refusal.{Refusal}
 use Rattle.tables.proofs.Good.{places-to}
 use Rattle.tables.proofs.PlaceChecks.{passes-place}
@@ -25,16 +26,16 @@ use Rattle.rules.specs.Taking.{cellCheckAt, pageChecks, lookChecks, grown}
 use Rattle.rules.specs.Tallying.{tallyRest, tallyChecks, tallyOf, tallySays}
 use Rattle.text.specs.Text.{refusedText}
 use Rattle.report.specs.Calls.{startingWith, lineSpace, linesFit, linesRest, linesChecks, linesText, linesAnswer, linesSays, linesLeaves}
-use Rattle.report.specs.Listing.{linesFrom, listed, listing}
+use Rattle.report.specs.Listing.{lineAt, linesFrom, listed, listing}
 use Rattle.report.specs.Steps.{Steps}
-use Rattle.report.proofs.Joined.{lines-joined}
+use Rattle.buffers.proofs.Joining.{joined-then}
 
 module _ (t : List ℕ) where
-  refused-7 : (bytes : List ℕ) (r : Refusal) → meaning r ≡ checkSays t → refusedText (numberOf r) ≡ listing t bytes
+  refused-7 : (bytes : List ℕ) (r : Refusal) → meaning r ≡ checkSays t → refusedText (printed (meaning r)) ≡ listing t bytes
   refused-7 bytes r said =
       let fails = refusal-fails (placesIn t ∷ []) (tableChecks t) r said in
       let seven : numberOf r ≡ 7 = ap numberSaid said ∙ table-says-7 t (0 ∷ placesIn t ∷ []) fails in
-      rw (fails, seven) refl
+      rw (fails, of-7 r seven) refl
 
   room-lists : (bytes : List ℕ) → listing (take tableRoom t) bytes ≡ listing t bytes
   room-lists bytes =
@@ -46,7 +47,7 @@ module _ (t : List ℕ) where
   blocks-go-on p b h room = (omega arith, omega arith)
 
   one-block : (pg : List ℕ) (p b : ℕ) → linesFrom t pg 0 p ++ linesText t pg p b ≡ linesFrom t pg 0 (p + linesFit t p b)
-  one-block pg p b = sym (lines-joined t pg 0 p (linesFit t p b) ∙ rw (zero-add p) refl)
+  one-block pg p b = sym (joined-then (lineAt t pg) 0 p (linesFit t p b) ∙ rw (zero-add p) refl)
 
   -- ---- a page that grew
   module _ (good : Good t) (xs : List (List ℕ)) where
@@ -94,7 +95,7 @@ module _ (t : List ℕ) where
     grows = λ bytes. refl;
     lines-written = block-written;
     tallied = counted;
-    printed = λ text held. take-append-seam text (drop (length text) held);
+    text-printed = λ text held. take-append-seam text (drop (length text) held);
     goes-on = blocks-go-on;
     one-block-more = one-block;
     whole = λ good bytes pg refused made. rw (passes-fails (tableChecks t) good) (sym (ap (listed t) made));

@@ -4,9 +4,11 @@ use Prim.Native.Nat.{ℕ}
 use mathlib.Core.Path.{_≡_}
 use mathlib.Core.List.{List, [], _∷_, _++_}
 use lib.ListN.{take, replicate}
+use Rattle.answers.specs.Refusals.{meaning, printed}
+use Rattle.answers.specs.declared.Refusal.the-variants as refusal
 use Rattle.tables.specs.Example.{wholeCase}
 use Rattle.rules.specs.Example.{of, first, second, other, page, state-3}
-use Rattle.text.specs.Text.{ascii}
+use Rattle.text.specs.Text.{ascii, refusedText}
 use Rattle.report.specs.Listing.{lastLine, listing}
 use Rattle.report.specs.Calls.{linesSays, linesLeaves, lineSays, lineLeaves}
 
@@ -38,6 +40,8 @@ pub record Example : Type 0 where
   pub lines-12 : linesSays wholeCase state-3 0 (nines 256) ≡ 12 ∷ 0 ∷ []
   pub lines-past-12 : linesSays wholeCase state-3 1 (nines 256) ≡ 0 ∷ 2 ∷ 18 ∷ []
   pub refused-leaves : linesLeaves wholeCase state-3 0 (nines 256) ≡ nines 256
+  -- a refusal that names two values
+  pub two-printed : refusedText (printed (meaning (refusal.UnusableCoefficientAt 4095 15))) ≡ ascii "refused 11 4095 15\n"
   -- one line of a known text: its size, or 4 where there are less than 256 bytes
   pub last-line : lastLine (1 ∷ 1 ∷ 0 ∷ 0 ∷ 0 ∷ []) 2 ≡ ascii "tally 1 1 0 0 0 2\n"
   pub line-says : lineSays (ascii "refused 7\n") (nines 256) ≡ 0 ∷ 10 ∷ []

@@ -1,8 +1,9 @@
 -- The listing of a page (docs/RULES.md, "Listing program"). t is the bytes of `pairing.bin`, pg those of a page;
 -- `row` is the bytes of a row, r its number.
-use Prim.Native.Nat.{ℕ, zero, suc}
+use Prim.Native.Nat.{ℕ}
 use mathlib.Core.List.{List, [], _∷_, _++_}
 use Rattle.answers.specs.Checks.{anyOf, pick, failsOf}
+use Rattle.buffers.specs.Joined.{joined}
 use Rattle.tables.specs.Table.{placesIn, tableChecks, rowOf, rowFor}
 use Rattle.layout.specs.Layout.{cellAt, emptyPage}
 use Rattle.rules.specs.Taking.{Received, collected}
@@ -25,9 +26,8 @@ abbrev pub lineAt : List ℕ → List ℕ → ℕ → List ℕ
 lineAt t pg p = lineIn (rowFor t p) (rowOf t p) pg p
 
 -- the lines of n places, from place p on
-unfoldable pub linesFrom : List ℕ → List ℕ → ℕ → ℕ → List ℕ
-linesFrom t pg p zero = []
-linesFrom t pg p (suc n) = lineAt t pg p ++ linesFrom t pg (suc p) n
+abbrev pub linesFrom : List ℕ → List ℕ → ℕ → ℕ → List ℕ
+linesFrom t pg = joined (lineAt t pg)
 
 -- the last line: "`tally`, the five counts of the tally, the number of refused takes"
 abbrev pub lastLine : List ℕ → ℕ → List ℕ
@@ -40,4 +40,4 @@ listed t s = linesFrom t (s .page) 0 (placesIn t) ++ lastLine (tallyOf t (s .pag
 -- what the program prints, given the bytes of `records.bin`: "With a bad table the program prints the line `refused
 -- 7` and nothing else"; otherwise each 8 bytes are taken in turn into an empty page, and a shorter last part too
 abbrev pub listing : List ℕ → List ℕ → List ℕ
-listing t bytes = pick (anyOf (failsOf (tableChecks t))) (refusedText 7) (listed t (collected t (emptyPage (placesIn t)) bytes))
+listing t bytes = pick (anyOf (failsOf (tableChecks t))) (refusedText (7 ∷ [])) (listed t (collected t (emptyPage (placesIn t)) bytes))

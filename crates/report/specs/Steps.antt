@@ -5,7 +5,7 @@ use Prim.Native.Nat.{ℕ, _+_, _*_, _≤_, _<_}
 use mathlib.Core.List.{List, _∷_, _++_}
 use mathlib.Core.Path.{_≡_}
 use lib.ListN.{length, take}
-use Rattle.answers.specs.Refusals.{meaning, numberOf}
+use Rattle.answers.specs.Refusals.{meaning, printed}
 use Rattle.answers.specs.declared.Refusal.{Refusal}
 use Rattle.tables.specs.Table.{tableRoom, placesIn, checkSays, Good}
 use Rattle.layout.specs.Layout.{emptyPage}
@@ -17,7 +17,7 @@ use Rattle.report.specs.Calls.{startingWith, lineSpace, linesFit, linesT
 
 pub record Steps (t : List ℕ) : Type 0 where
   -- a table that the check refuses: its refusal is the whole listing
-  pub bad-table : (bytes : List ℕ) (r : Refusal) → meaning r ≡ checkSays t → refusedText (numberOf r) ≡ listing t bytes
+  pub bad-table : (bytes : List ℕ) (r : Refusal) → meaning r ≡ checkSays t → refusedText (printed (meaning r)) ≡ listing t bytes
   -- a table file may be too long: as many bytes as there is room for give the listing of all of them
   pub enough-read : (bytes : List ℕ) → listing (take tableRoom t) bytes ≡ listing t bytes
   -- records in two blocks, the first of whole records: the page and the refused takes of both are those of all the
@@ -34,7 +34,7 @@ pub record Steps (t : List ℕ) : Type 0 where
       × (linesLeaves t (grown t xs) p held ≡ startingWith (linesText t (grown t xs) p (length held)) held)
   pub tallied : Good t → (xs : List (List ℕ)) → tallySays t (grown t xs) ≡ 0 ∷ tallyOf t (grown t xs)
   -- what is printed, the first bytes of the buffer, as many as the answer says, is the text
-  pub printed : (text held : List ℕ) → take (length text) (startingWith text held) ≡ text
+  pub text-printed : (text held : List ℕ) → take (length text) (startingWith text held) ≡ text
   -- a block of lines has one line at the least and ends with the last place at the most, and goes on where the
   -- lines before it ended
   pub goes-on : (p b : ℕ) → p < placesIn t → lineSpace ≤ b → (p < p + linesFit t p b) × (p + linesFit t p b ≤ placesIn t)

@@ -1,2 +1,3 @@
-// What the call lines is made of.
+// What the calls of the report are made of.
 pub mod block;
+pub mod refusal;

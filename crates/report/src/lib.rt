@@ -3,17 +3,16 @@
 pub mod inner;
 
 use answers::Refusal;
-use answers::number;
 use inner::block::lines_from;
+use inner::refusal::write_refusal;
 use page::Counts;
 use pairing::inner::survey::Surveyed;
 use places::inner::opening::survey_look;
 use text::inner::lines::write_last_line;
-use text::inner::lines::write_refused_line;
 ghost use mathlib.Core.Path.{_≡_};
 ghost use Prim.Native.Nat.{_≤_};
 ghost use lib.ListN.{length};
-ghost use Rattle.answers.specs.Refusals.{numberOf};
+ghost use Rattle.answers.specs.Refusals.{meaning, printed};
 ghost use Rattle.page.specs.Meanings.{countsMeaning};
 ghost use Rattle.text.specs.Text.{refusedText};
 ghost use Rattle.report.specs.Listing.{lastLine};
@@ -64,14 +63,14 @@ pub fn last_line(counts: Counts, refused: u64, out: &mut [u8]) -> Lined
     Lined::Written(write_last_line(&numbers, 0, out))
 }
 
-// The call refused_line: what is printed for a refusal.
+// The call refused_line: what is printed for a refusal, its number and the values of one that names two.
 pub fn refused_line(refusal: Refusal, out: &mut [u8]) -> Lined
-    ensures { λ r. ⌜ (linedMeaning r ≡ lineSays (refusedText (numberOf refusal)) (now (out .entry)))
-        × (now (out .exit) ≡ lineLeaves (refusedText (numberOf refusal)) (now (out .entry)))
+    ensures { λ r. ⌜ (linedMeaning r ≡ lineSays (refusedText (printed (meaning refusal))) (now (out .entry)))
+        × (now (out .exit) ≡ lineLeaves (refusedText (printed (meaning refusal))) (now (out .entry)))
         × (sizeLined r ≤ length (now (out .exit))) ⌝ }
 {
     if out.len() < 256 {
         return Lined::Refused(Refusal::BufferLength);
     }
-    Lined::Written(write_refused_line(number(refusal), 0, out))
+    Lined::Written(write_refusal(refusal, out))
 }

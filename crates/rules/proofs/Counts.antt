@@ -1,5 +1,5 @@
--- The tally's five counts: they sum to the number of places, and one place more adds 1 to the count of its answer
--- alone.
+-- The tally's five counts: they sum to the number of places, one place more adds 1 to the count of its answer alone,
+-- and where every place is sound they are the number of places and zeros.
 use Prim.Native.Nat.{ℕ, zero, suc, _≤_, _<_}
 use mathlib.Core.Path.{_≡_, refl, sym, ap, _∙_}
 use mathlib.Core.List.{List, [], _∷_}
@@ -39,6 +39,14 @@ module _ (f : ℕ → ℕ) where
   counts-next n (suc (suc (suc zero))) e h = rw e refl
   counts-next n (suc (suc (suc (suc zero)))) e h = rw e refl
   counts-next n (suc (suc (suc (suc (suc a))))) e h = absurd (omega arith)
+
+  -- every place has the first answer
+  pub first-alone : (n : ℕ) → ((p : ℕ) → p < n → f p ≡ 0) → countsOf f n ≡ n ∷ 0 ∷ 0 ∷ 0 ∷ 0 ∷ []
+  unfolding countOf
+  first-alone zero all = refl
+  first-alone (suc n) all =
+      sym (counts-next n 0 (all n (omega arith)) (omega arith))
+      ∙ ap (λ (counts : List ℕ). set counts 0 (suc (getD counts 0 0))) (first-alone n (λ p h. all p (omega arith)))
 
   -- no count is above the number of places
   count-to : (a n : ℕ) → countOf f a n ≤ n

@@ -58,9 +58,12 @@ pub fn answered(n: u64) {
     next(n);
 }
 
-// What a refused call says: the number, and the first value that it names, or 0.
+// What a refused call says: the number, the first value that it names, or 0, and the second of one that names two.
 pub fn refused(refusal: Refusal) {
     let numbers = answers::in_numbers(refusal);
     said(numbers.0 as u64);
     next(numbers.1 as u64);
+    if numbers.3 == 2 {
+        next(numbers.2 as u64);
+    }
 }

@@ -20,4 +20,5 @@ example = record {
   unreadable = refl;
   last = refl;
   refused = refl;
+  refused-at = refl;
 }

@@ -19,4 +19,5 @@ pub record Example : Type 0 where
   pub contested : placeText 3 3 0 (pos 0 ∷ []) ≡ ascii "3 contested 0 0\n"
   pub unreadable : placeText 10 4 14 (pos 0 ∷ []) ≡ ascii "10 unreadable 14 0\n"
   pub last : lastText (1 ∷ 1 ∷ 0 ∷ 0 ∷ 0 ∷ 0 ∷ []) ≡ ascii "tally 1 1 0 0 0 0\n"
-  pub refused : refusedText 7 ≡ ascii "refused 7\n"
+  pub refused : refusedText (7 ∷ []) ≡ ascii "refused 7\n"
+  pub refused-at : refusedText (11 ∷ 4095 ∷ 15 ∷ []) ≡ ascii "refused 11 4095 15\n"

@@ -62,6 +62,7 @@ placeText place answer reason coordinates = line (decimal place) (word answer �
 abbrev pub lastText : List ℕ → List ℕ
 lastText numbers = line (ascii "tally") (map decimal numbers)
 
--- "With a bad table the program prints the line `refused 7` and nothing else"
-abbrev pub refusedText : ℕ → List ℕ
-refusedText number = line (ascii "refused") (decimal number ∷ [])
+-- "With a bad table the program prints the line `refused 7` and nothing else"; the numbers of a refusal, of which the
+-- first is its own
+abbrev pub refusedText : List ℕ → List ℕ
+refusedText numbers = line (ascii "refused") (map decimal numbers)

@@ -1,5 +1,5 @@
-/* Makes the cases of vectors/ in a folder, the same bytes in every run. The case `full_page` gets no listing.txt: that
-   comes from the lister. */
+/* Makes the cases of vectors/ in a folder, the same bytes in every run. The cases `full_page` and `sent_full` get no
+   listing.txt: that comes from the lister. */
 
 #include "../listing.h"
 
@@ -43,6 +43,8 @@ int main(int words, char **word)
     make_small_cases(word[1]);
     make_table_cases(word[1]);
     make_place_cases(word[1]);
+    make_sent_cases(word[1]);
     make_full_page(word[1]);
+    make_sent_full(word[1]);
     return 0;
 }

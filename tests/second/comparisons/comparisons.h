@@ -6,7 +6,7 @@
 #include "../draws/draws.h"
 #include "../kinds/lent.h"
 #include "../probe.h"
-#include "../rules/page.h"
+#include "../rules/sending.h"
 
 /* A lent point among guards: it begins at cells + GUARDS. */
 struct point_room {
@@ -26,6 +26,7 @@ struct comparisons {
     uint64_t coefficients;
     uint64_t tallies;
     uint64_t calls_of_page; /* how many calls the last five took */
+    uint64_t sends;
     uint64_t refusals[MOST_REFUSAL + 1];
 };
 extern struct comparisons compared;
@@ -59,13 +60,19 @@ struct list compare_read(const struct question *question);
 struct list compare_coefficient(const struct question *question);
 struct list compare_tally(const struct table *table, const struct page *page);
 
+/* compare_send.c: one comparison of send with the rules, whose refusal is returned; and of a page that is not
+   refused, with what its receiver has */
+uint64_t compare_send(const struct sending *sending);
+void compare_send_received(const struct sending *sending);
+
 /* tables.c: the table of the whole case; docs/RULES.md, "Worked cases" */
 extern const struct table pairing_bin;
 
 /* vectors.c: any vector, held to the program's own quantizer, whose refusal is returned */
 uint32_t compare_vector(const struct vector *vector);
 
-/* All that is compared, each in the file that its name says; first without the page, then of the page */
+/* All that is compared, each in the file that its name says; first without the page, then of the page, then whole
+   pages that are sent */
 void compare_examples(void);
 void compare_listing(void);
 void compare_ends(void);
@@ -81,5 +88,6 @@ void compare_runs(void);
 void compare_places(void);
 void compare_tallies(void);
 void compare_page_checks(void);
+void compare_sends(void);
 
 #endif

@@ -17,7 +17,7 @@ static void print_compared(void)
     printf("%lu pairing tables, %lu quantized vectors, ", compared.tables, compared.vectors);
     printf("%lu taken records, %lu runs of records, ", compared.takes, compared.runs);
     printf("%lu places, %lu coefficients, ", compared.places, compared.coefficients);
-    printf("%lu tallies and every refusal\n", compared.tallies);
+    printf("%lu tallies, %lu sent pages and every refusal\n", compared.tallies, compared.sends);
 }
 
 int main(void)
@@ -35,6 +35,7 @@ int main(void)
     compare_checks();
     require_kinds();
     compare_pages();
+    compare_sends();
     print_compared();
     return 0;
 }

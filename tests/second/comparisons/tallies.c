@@ -61,8 +61,7 @@ static void compare_with_faults(const struct table *table)
 /* As many places as there can be, few of them at fault or none. */
 static void compare_large(void)
 {
-    struct table table = good_table_by_chance();
-    aim_total(&table, table.size / ROW_SIZE - 1, MOST_PLACES);
+    const struct table table = large_table_by_chance();
     page_by_chance(&page, &table, chance_below(5) ? 0 : MOST_PLACES);
     compare_tally(&table, &page);
 }

@@ -21,6 +21,14 @@ struct table page_table_by_chance(void)
     return chance_below(2) ? small_table_by_chance() : good_table_by_chance();
 }
 
+/* A good table of as many places as there can be. */
+struct table large_table_by_chance(void)
+{
+    struct table table = good_table_by_chance();
+    aim_total(&table, table.size / ROW_SIZE - 1, MOST_PLACES);
+    return table;
+}
+
 /* Gives a table one of the faults that are rare by chance. */
 static void give_fault(struct table *table, enum fault fault)
 {

@@ -21,6 +21,7 @@ struct case_of_page {
 /* page_chance.c: tables, cells, pages and records */
 struct table small_table_by_chance(void);
 struct table page_table_by_chance(void);
+struct table large_table_by_chance(void);
 struct table bad_table_by_chance(enum fault fault);
 void plant_shell(struct table *table, uint64_t row, struct shell shell);
 enum { CODEWORDS_BESIDE = 8 };

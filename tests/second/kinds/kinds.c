@@ -141,6 +141,11 @@ void note_kinds(const struct vector *vector, const struct quantizing *made)
     note_row(vector, made);
 }
 
+void require_kind(enum kind kind, uint64_t least)
+{
+    require(kinds[kind], least, "vectors", names[kind]);
+}
+
 static void require_each(const uint64_t *counts, uint64_t first, uint64_t last, const char *what)
 {
     for (uint64_t number = first; number <= last; number++)
@@ -156,8 +161,8 @@ static void require_vectors(struct shell shell)
    of all records. */
 void require_kinds(void)
 {
-    for (int kind = 0; kind < KINDS; kind++)
-        require(kinds[kind], LEAST, "vectors", names[kind]);
+    for (enum kind kind = 0; kind < KINDS; kind++)
+        require_kind(kind, LEAST);
     require_each(lengths, 1, MOST_LENGTH, "vectors of length");
     require_each(numbers, 0, MOST_RADII - 1, "vectors of radius number");
     require_each(rows, 0, MOST_ROWS - 1, "vectors of row");

@@ -65,6 +65,7 @@ enum kind {
 /* kinds.c: how many vectors of each kind were compared */
 void note_if(int is_there, enum kind kind);
 void note_kinds(const struct vector *vector, const struct quantizing *made);
+void require_kind(enum kind kind, uint64_t least);
 void require_kinds(void);
 
 /* steps.c: the kinds that the steps of quantizing tell */

@@ -10,20 +10,46 @@ ghost use mathlib.Core.List.{[], _∷_};
 ghost use lib.ListN.{length};
 ghost use Rattle.answers.specs.Checks.{firstOf};
 ghost use Rattle.answers.specs.Refusals.{verdictMeaning};
-ghost use Rattle.coefficients.specs.Coefficients.{usableChecks, AllUsable};
+ghost use Rattle.coefficients.specs.Coefficients.{usableChecks, FirstAtFault, someUnusable, AllUsable};
 ghost use Rattle.coefficients.specs.Points.{magnitudesOf, signedBy};
 ghost use Rattle.shares.specs.Shares.{AllUpTo};
+
+// The first coordinate at fault, or the number of coefficients where none is.
+pub fn first_at_fault(coefficients: &[f32]) -> usize
+    ensures { λ n. ⌜ FirstAtFault (now (coefficients .entry)) n ⌝ }
+{
+    let mut at = 0;
+    while at < coefficients.len() {
+        if is_unusable(coefficients[at]) {
+            return at;
+        }
+        at += 1;
+    }
+    at
+}
+
+// Whether a coefficient is unusable. The loop looks at all of them, so that it can take several at a time.
+pub fn some_unusable(coefficients: &[f32]) -> bool
+    ensures { λ b. ⌜ b ≡ someUnusable (now (coefficients .entry)) (length (now (coefficients .entry))) ⌝ }
+{
+    let mut some = false;
+    let mut at = 0;
+    while at < coefficients.len() {
+        if is_unusable(coefficients[at]) {
+            some = true;
+        }
+        at += 1;
+    }
+    some
+}
 
 // The first coordinate at fault is refused.
 pub fn check_coefficients(coefficients: &[f32]) -> Verdict
     ensures { λ r. ⌜ verdictMeaning r ≡ firstOf (usableChecks (now (coefficients .entry))) (0 ∷ []) ⌝ }
 {
-    let mut at = 0;
-    while at < coefficients.len() {
-        if is_unusable(coefficients[at]) {
-            return Verdict::Refused(Refusal::UnusableCoefficient { coordinate: at });
-        }
-        at += 1;
+    let at = first_at_fault(coefficients);
+    if at < coefficients.len() {
+        return Verdict::Refused(Refusal::UnusableCoefficient { coordinate: at });
     }
     Verdict::Passed
 }

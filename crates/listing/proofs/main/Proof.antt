@@ -1,7 +1,7 @@
 -- `listing::main` lists the page, or prints the refusal of its table.
 use lib.ListN.{take}
 use borrow.Author.Needs.{needs}
-use Rattle.listing.proofs.Parts.{places-few}
+use Rattle.files.proofs.Parts.{places-few}
 use Rattle.listing.proofs.main.Statement.{statement}
 use Rattle.listing.proofs.main.Tie as tie
 

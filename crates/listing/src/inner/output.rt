@@ -1,23 +1,12 @@
-// What is printed, a block at a time. Where it cannot be written, standard error tells so, and nothing more is
-// printed.
-use answers::Refusal;
-use libc::STDOUT_FILENO;
+// The listing, printed a block at a time. Where one cannot be written, nothing more is printed.
+use files::inner::printing::print_refused;
+use files::inner::printing::put;
 use page::Tallied;
 use page::tally;
 use report::Lined;
 use report::Listed;
 use report::last_line;
 use report::lines;
-use report::refused_line;
-
-// Writes all of a text, or tells that it cannot.
-fn put(text: &[u8]) -> bool {
-    let written = io::write_all(STDOUT_FILENO, text);
-    if !written {
-        os::fail(b"standard output");
-    }
-    written
-}
 
 // Prints the page: the lines of its places, and the last line.
 pub fn print_page(table: &[u8], page: &[u8], places: usize, refused: u64) {
@@ -53,16 +42,5 @@ fn print_tally(table: &[u8], page: &[u8], refused: u64) {
             }
         }
         Tallied::Refused(refusal) => print_refused(refusal),
-    }
-}
-
-// Prints a refusal.
-pub fn print_refused(refusal: Refusal) {
-    let mut out = [0u8; 256];
-    match refused_line(refusal, &mut out) {
-        Lined::Written(size) => {
-            put(&out[..size]);
-        }
-        Lined::Refused(_) => {}
     }
 }

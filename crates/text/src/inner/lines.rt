@@ -7,9 +7,10 @@ use crate::inner::fields::write_numbers;
 use crate::inner::fields::write_text;
 use crate::inner::fields::write_word;
 ghost use Prim.Native.Nat.{_+_, _≤_};
+ghost use mathlib.Core.List.{map};
 ghost use lib.ListN.{length};
 ghost use Rattle.buffers.specs.Written.{Wrote};
-ghost use Rattle.text.specs.Text.{placeText, lastText, refusedText};
+ghost use Rattle.text.specs.Text.{decimal, line, placeText, lastText, refusedText};
 
 // The line of a place: its number, the number of its answer, the reason, and at most 16 coordinates.
 pub fn write_place_line(
@@ -30,22 +31,28 @@ pub fn write_place_line(
     write_byte(b'\n', end, out)
 }
 
+// A line of numbers, at most six, behind a word.
+fn write_numbers_line(word: &[u8], numbers: &[u64], at: usize, out: &mut [u8]) -> usize
+    requires { ⌜ (length (now word) ≤ 10) × (length (now numbers) ≤ 6) × (at + 256 ≤ length (now out)) ⌝ }
+    ensures { λ r. ⌜ Wrote (now (out .entry)) at (line (now (word .entry)) (map decimal (now (numbers .entry)))) 256 r (now (out .exit)) ⌝ }
+{
+    let mut end = write_text(word, at, out);
+    end = write_numbers(numbers, end, out);
+    write_byte(b'\n', end, out)
+}
+
 // The last line: at most six numbers behind the word.
 pub fn write_last_line(numbers: &[u64], at: usize, out: &mut [u8]) -> usize
     requires { ⌜ (length (now numbers) ≤ 6) × (at + 256 ≤ length (now out)) ⌝ }
     ensures { λ r. ⌜ Wrote (now (out .entry)) at (lastText (now (numbers .entry))) 256 r (now (out .exit)) ⌝ }
 {
-    let mut end = write_text(b"tally", at, out);
-    end = write_numbers(numbers, end, out);
-    write_byte(b'\n', end, out)
+    write_numbers_line(b"tally", numbers, at, out)
 }
 
-// The line of a refusal.
-pub fn write_refused_line(number: u32, at: usize, out: &mut [u8]) -> usize
-    requires { ⌜ at + 256 ≤ length (now out) ⌝ }
-    ensures { λ r. ⌜ Wrote (now (out .entry)) at (refusedText number) 256 r (now (out .exit)) ⌝ }
+// The line of a refusal: at most three numbers behind the word.
+pub fn write_refused_line(numbers: &[u64], at: usize, out: &mut [u8]) -> usize
+    requires { ⌜ (length (now numbers) ≤ 3) × (at + 256 ≤ length (now out)) ⌝ }
+    ensures { λ r. ⌜ Wrote (now (out .entry)) at (refusedText (now (numbers .entry))) 256 r (now (out .exit)) ⌝ }
 {
-    let mut end = write_text(b"refused", at, out);
-    end = write_number(number as u64, end, out);
-    write_byte(b'\n', end, out)
+    write_numbers_line(b"refused", numbers, at, out)
 }

@@ -6,8 +6,7 @@ use native.Mathlib.Omega.{arith}
 use lib.ListN.{length, take}
 use borrow.Author.Needs.{needs}
 use borrow.Author.Tests.{ltb-true}
-use Rattle.listing.proofs.Blocks.{TookWhole, took-none, took-block, took-more}
-use Rattle.listing.proofs.Parts.{refused-few}
+use Rattle.listing.proofs.Blocks.{TookWhole, took-none, took-block, took-more, refused-few}
 use Rattle.listing.proofs.inner.input.take_records.Statement.{statement}
 use Rattle.listing.proofs.inner.input.take_records.Tie as tie
 

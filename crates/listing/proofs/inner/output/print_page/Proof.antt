@@ -7,7 +7,7 @@ use lib.ListN.{length}
 use borrow.Author.Needs.{needs}
 use Rattle.report.proofs.Steps.{said-goes-on}
 use Rattle.report.specs.Calls.{listedMeaning, sizeListed}
-use Rattle.listing.proofs.Parts.{part-fits, part-size}
+use Rattle.files.proofs.Parts.{part-fits, part-size}
 use Rattle.listing.proofs.inner.output.print_page.Statement.{statement}
 use Rattle.listing.proofs.inner.output.print_page.Tie as tie
 

@@ -1,7 +1,7 @@
 -- `listing::inner::output::print_tally` prints what the call last_line has written.
 use borrow.Author.Needs.{needs}
 use Rattle.report.specs.Calls.{sizeLined}
-use Rattle.listing.proofs.Parts.{part-fits, part-size}
+use Rattle.files.proofs.Parts.{part-fits, part-size}
 use Rattle.listing.proofs.inner.output.print_tally.Statement.{statement}
 use Rattle.listing.proofs.inner.output.print_tally.Tie as tie
 

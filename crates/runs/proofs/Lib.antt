@@ -1,0 +1,5 @@
+pub mod Example
+pub mod Positions
+pub mod Way
+pub mod Judging
+pub mod Records

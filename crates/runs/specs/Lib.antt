@@ -1,0 +1,4 @@
+pub mod Run
+pub mod Sending
+pub mod File
+pub mod Example

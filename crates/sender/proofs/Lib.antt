@@ -1,0 +1,4 @@
+pub mod Run
+pub mod Named
+pub mod Steps
+pub mod Example

@@ -1,0 +1,3 @@
+pub mod Prints
+pub mod Steps
+pub mod Example

@@ -1,0 +1,3 @@
+// What the call send is made of.
+pub mod run;
+pub mod sending;

@@ -1,0 +1,106 @@
+// A run of coefficients into the records of a page: first every coefficient is judged, and then the records are
+// written.
+use crate::Sending;
+use crate::inner::run::coordinates;
+use crate::inner::run::vector_at;
+use answers::Refusal;
+use answers::Verdict;
+use coding::inner::write_record;
+use coefficients::inner::coefficients::first_at_fault;
+use coefficients::inner::coefficients::some_unusable;
+use pairing::inner::walking::walk_from;
+use pairing::inner::walking::walked;
+use rows::inner::row::length;
+use rows::inner::row::row_at;
+ghost use mathlib.Core.Path.{_≡_};
+ghost use mathlib.Core.List.{[], _∷_};
+ghost use Prim.Native.Nat.{_+_, _*_};
+ghost use lib.ListN as listed;
+ghost use Rattle.answers.specs.Checks.{firstOf, leaves};
+ghost use Rattle.answers.specs.Refusals.{verdictMeaning};
+ghost use Rattle.buffers.specs.Written.{Wrote};
+ghost use Rattle.records.specs.Record.{recordLength, recordOf};
+ghost use Rattle.coding.specs.Coded.{radiusNumberFor, codewordFor};
+ghost use Rattle.runs.specs.Sending.{runChecks, sendRest, recordsOf};
+ghost use Rattle.sending.specs.Meanings.{sendMeaning};
+ghost use Rattle.sending.specs.Bounds.{Opened, Measured, Writable, Judged};
+
+// Whether every coefficient is usable, or the refusal that names the lowest place at fault, and its first coordinate
+// at fault. The places are gone through only if some coefficient is unusable.
+fn check_run(table: &[u8], places: usize, first: usize, run: &[f32]) -> Verdict
+    requires { ⌜ Measured (now table) places first (now run) ⌝ }
+    ensures { λ r. ⌜ verdictMeaning r ≡ firstOf (runChecks (now (table .entry)) (now (run .entry))) (0 ∷ []) ⌝ }
+{
+    if !some_unusable(run) {
+        return Verdict::Passed;
+    }
+    let mut walk = walk_from(table, first, 0);
+    let mut from = 0;
+    let mut place = 0;
+    while place < places {
+        walk = walked(table, walk, place);
+        let l = length(row_at(table, walk.row)).0;
+        let coordinate = first_at_fault(vector_at(run, from, l));
+        if coordinate < l {
+            return Verdict::Refused(Refusal::UnusableCoefficientAt { place, coordinate });
+        }
+        from += l;
+        place += 1;
+    }
+    Verdict::Passed
+}
+
+// The record of a vector at a place of this row, which has this number, where it stands in the buffer.
+fn write_at(row: &[u8], number: usize, place: usize, coefficients: &[f32], out: &mut [u8])
+    requires { ⌜ Writable (now row) (now coefficients) place (now out) ⌝ }
+    ensures { λ _. ⌜ Wrote (now (out .entry)) (recordLength * place)
+        (recordOf place number (radiusNumberFor (now (row .entry)) (now (coefficients .entry))) (codewordFor (now (row .entry)) (now (coefficients .entry))))
+        recordLength (recordLength * place + recordLength) (now (out .exit)) ⌝ }
+{
+    let from = 8 * place;
+    let to = from + 8;
+    write_record(row, number, place, coefficients, &mut out[from..to]);
+}
+
+// The records of all places, in place order.
+fn write_records(table: &[u8], places: usize, first: usize, run: &[f32], out: &mut [u8])
+    requires { ⌜ Judged (now table) places first (now run) (now out) ⌝ }
+    ensures { λ _. ⌜ now (out .exit) ≡ recordsOf (now (table .entry)) (now (run .entry)) ⌝ }
+{
+    let mut walk = walk_from(table, first, 0);
+    let mut from = 0;
+    let mut place = 0;
+    while place < places {
+        walk = walked(table, walk, place);
+        let number = walk.row;
+        let row = row_at(table, number);
+        let l = length(row).0;
+        write_at(row, number, place, vector_at(run, from, l), out);
+        from += l;
+        place += 1;
+    }
+}
+
+// What send does with a table that passed: the checks 4, 4 and 11, and the work. `first` is the row of place 0.
+pub fn send_run(table: &[u8], places: usize, first: usize, run: &[f32], out: &mut [u8]) -> Sending
+    requires { ⌜ Opened (now table) places first ⌝ }
+    ensures { λ r. ⌜ (sendMeaning r
+        ≡ firstOf (sendRest (now (table .entry)) (now (run .entry)) (listed.length (now (out .entry)))) (0 ∷ []))
+        × (now (out .exit)
+        ≡ leaves (sendRest (now (table .entry)) (now (run .entry)) (listed.length (now (out .entry))))
+        (recordsOf (now (table .entry)) (now (run .entry))) (now (out .entry))) ⌝ }
+{
+    if run.len() != coordinates(table) {
+        return Sending::Refused(Refusal::BufferLength);
+    }
+    if out.len() != 8 * places {
+        return Sending::Refused(Refusal::BufferLength);
+    }
+    match check_run(table, places, first, run) {
+        Verdict::Passed => {
+            write_records(table, places, first, run, out);
+            Sending::Written
+        }
+        Verdict::Refused(refusal) => Sending::Refused(refusal),
+    }
+}

@@ -1,0 +1,58 @@
+/* One comparison of send with the rules in rules/sending.c, and what a page that was sent is to its receiver: taken
+   into an empty page, every place is sound and has the quantized point. */
+
+#include "../kinds/lent_send.h"
+#include "../kinds/send_kinds.h"
+#include "comparisons.h"
+
+#include <stdio.h>
+
+static struct sent expected;
+
+/* The refusal of the program's own rules is returned. */
+uint64_t compare_send(const struct sending *sending)
+{
+    send_page(sending, &expected);
+    expect_send("probe_send", probe_send, sending, &expected);
+    note_send(sending, &expected);
+    note(as_answer((uint32_t)expected.list.items[0]), &compared.sends);
+    return expected.list.items[0];
+}
+
+/* A call for the receiver that answers something else. */
+static void hold(const struct table *table, const char *what, uint64_t wanted, uint64_t got)
+{
+    if (wanted == got)
+        return;
+    print_table("records that were sent", table);
+    printf(", %s", what);
+    differ(wanted, got);
+}
+
+/* One place of the page that was received: sound, with the point of the program's own quantizer. And quantize writes
+   this very record. */
+static void compare_received(const struct sending *sending, const uint8_t *page, uint64_t page_size, uint64_t place)
+{
+    const struct table *table = &sending->table;
+    const struct vector vector = vector_at(sending, place);
+    const struct quantizing made = quantize(&vector);
+    int32_t point[MOST_LENGTH];
+    hold(table, "refusal of read", 0, probe_read(table->bytes, table->size, page, page_size, place, point, vector.length, 0));
+    hold(table, "answer of read", SOUND, probe_read(table->bytes, table->size, page, page_size, place, point, vector.length, 1));
+    for (uint64_t i = 0; i < vector.length; i++)
+        hold(table, "coordinate, as 64 bits,", (uint64_t)made.point[i], (uint64_t)point[i]);
+    expect_quantize(&vector, &made.answer);
+}
+
+/* A page that is not refused, and then what its receiver has. */
+void compare_send_received(const struct sending *sending)
+{
+    static uint8_t page[CELL_SIZE * MOST_PLACES];
+    const struct table *table = &sending->table;
+    const uint64_t places = sending->buffer_length / RECORD_SIZE, size = CELL_SIZE * places;
+    own_figure("refusal of a page that is right", compare_send(sending), 0);
+    __builtin_memset(page, 0, size);
+    hold(table, "refused takes", 0, probe_collect(table->bytes, table->size, page, size, expected.records, sending->buffer_length));
+    hold(table, "sound places", places, probe_tally(table->bytes, table->size, page, size, 1 + SOUND));
+    compare_received(sending, page, size, some_place(table));
+}
