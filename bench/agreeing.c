@@ -1,5 +1,5 @@
 /* Ours and plain C are asked the same. A difference, in the answer or in what a call is lent, is an error; else the
-   answer is returned, of quantize, take, read and send the refusal number. */
+   answer is returned, of quantize, take, read and send the refusal number, of collect how many takes are refused. */
 
 #include "bench.h"
 
@@ -7,6 +7,7 @@
 #include <string.h>
 
 enum { ROOM = MOST_LENGTH + 1, GARBAGE = 0x5a }; /* the room for an output, or a record, that is too long */
+enum { LEAST_REFUSED = 300 };                    /* takes with each refusal */
 enum { ITEM_REFUSAL, ITEM_ANSWER, ITEM_REASON };
 
 /* How often each call was compared, and how many of these comparisons were of refusals. */
@@ -15,9 +16,11 @@ static struct {
     uint64_t points;
     uint64_t vectors;
     uint64_t takes;
+    uint64_t runs;
     uint64_t places;
     uint64_t pages;
     uint64_t refused;
+    uint64_t takes_refused[MOST_REFUSAL + 1]; /* with each number */
 } compared;
 
 static void note(uint64_t *calls, int is_refused)
@@ -26,11 +29,16 @@ static void note(uint64_t *calls, int is_refused)
     compared.refused += is_refused != 0;
 }
 
+/* Every refusal of take must be among them. */
 void print_compared(void)
 {
+    const uint64_t refusals[] = {7, 4, 8, 9, 12};
+    for (uint64_t i = 0; i < ENTRIES(refusals); i++)
+        if (compared.takes_refused[refusals[i]] < LEAST_REFUSED)
+            fail("take", "a refusal that is hardly compared");
     printf("%lu indices, %lu points, %lu vectors, ", compared.indices, compared.points, compared.vectors);
-    printf("%lu takes, %lu places, %lu sent pages, ", compared.takes, compared.places, compared.pages);
-    printf("%lu of all these refused\n", compared.refused);
+    printf("%lu takes, %lu runs, %lu places, %lu sent pages, ", compared.takes, compared.runs, compared.places, compared.pages);
+    printf("%lu of all these refused, or with a refused take\n", compared.refused);
 }
 
 static void hold(const char *call, uint64_t ours, uint64_t plain, int are_same)
@@ -77,6 +85,18 @@ uint64_t agree_on_take(const struct table *table, uint8_t *page, uint8_t *page_o
     const uint32_t plain = plain_take(table->bytes, table->size, page_of_plain, size, in->bytes, in->length);
     hold("take", ours, plain, memcmp(page, page_of_plain, size) == 0);
     note(&compared.takes, ours != 0);
+    compared.takes_refused[ours]++;
+    return ours;
+}
+
+/* Each takes the run into its own page. */
+uint64_t agree_on_collect(const struct table *table, uint8_t *page, uint8_t *page_of_plain, uint64_t size, const uint8_t *run,
+                          uint64_t length)
+{
+    const uint64_t ours = probe_collect(table->bytes, table->size, page, size, run, length);
+    const uint64_t plain = plain_collect(table->bytes, table->size, page_of_plain, size, run, length);
+    hold("collect", ours, plain, memcmp(page, page_of_plain, size) == 0);
+    note(&compared.runs, ours != 0);
     return ours;
 }
 

@@ -11,7 +11,7 @@
 
 enum {
     INPUTS = 4096, /* of each workload, compared and timed: too many for the processor to know the next by heart */
-    COUNTED = 64,  /* those of them that are run step by step, but for whole pages */
+    COUNTED = 64,  /* those of them that are run step by step, but for runs and whole pages */
     NAME = 80      /* the room for the name of a line */
 };
 
@@ -86,6 +86,8 @@ uint64_t agree_on_index(struct shell shell, const int32_t *point, uint64_t point
 uint32_t agree_on_point(struct shell shell, uint64_t index, uint64_t out_length);
 uint32_t agree_on_quantize(const struct table *table, const struct coefficients *in, uint64_t record_length);
 uint64_t agree_on_take(const struct table *table, uint8_t *page, uint8_t *page_of_plain, uint64_t size, const struct record *in);
+uint64_t agree_on_collect(const struct table *table, uint8_t *page, uint8_t *page_of_plain, uint64_t size, const uint8_t *run,
+                          uint64_t length);
 uint64_t agree_on_read(const struct table *table, const uint8_t *page, uint64_t size, uint64_t place, uint64_t out_length);
 uint64_t agree_on_send(const struct table *table, const float *run, uint64_t run_length, uint64_t buffer_length);
 void print_compared(void);
@@ -105,6 +107,8 @@ uint32_t empty_take(const uint8_t *table, uint64_t table_length, uint8_t *page, 
                     uint64_t record_length);
 uint64_t empty_take_item(const uint8_t *table, uint64_t table_length, uint8_t *page, uint64_t page_length, const uint8_t *record,
                          uint64_t record_length, uint64_t which);
+uint64_t empty_collect(const uint8_t *table, uint64_t table_length, uint8_t *page, uint64_t page_length, const uint8_t *bytes,
+                       uint64_t bytes_length);
 struct plain_reading empty_read(const uint8_t *table, uint64_t table_length, const uint8_t *page, uint64_t page_length, uint64_t place,
                                 int32_t *out, uint64_t out_length);
 uint64_t empty_read_item(const uint8_t *table, uint64_t table_length, const uint8_t *page, uint64_t page_length, uint64_t place,

@@ -1,5 +1,6 @@
 /* Calls with what the second program draws: bad tables of every kind, vectors near every tie or anywhere, some of
-   them unusable, cells of every kind, with what arrives there, and whole pages with every set of faults. */
+   them unusable, cells of every kind, with what arrives there, one by one and as runs, and whole pages with every set
+   of faults. */
 
 #include "../tests/second/draws/send_draws.h"
 #include "bench.h"
@@ -48,6 +49,22 @@ static void try_page(void)
     }
 }
 
+/* What arrives as a run, for places of the table and for others, in a page with cells at fault. */
+static void try_run(void)
+{
+    static struct page page;
+    const struct table table = page_table_by_chance();
+    struct arrival run = {.length = chance_below(MOST_RUN + 1)};
+    page_by_chance(&page, &table, 6);
+    for (uint64_t at = 0; at < run.length; at += RECORD_SIZE) {
+        const struct arrival arrival = arrival_by_chance(&table, &page, some_place(&table));
+        __builtin_memcpy(run.bytes + at, arrival.bytes, RECORD_SIZE);
+        if (chance_below(8) == 0)
+            set_two_bytes(run.bytes + at + AT_PLACE, place_past_end(page.places));
+    }
+    agree_on_collect(&table, page.lent[0] + GUARDS, page.lent[1] + GUARDS, page.size, run.bytes, run.length);
+}
+
 /* The same bits, as floats. */
 static uint64_t agree_on_sending(const struct sending *sending)
 {
@@ -76,6 +93,7 @@ void compare_draws(void)
     for (int i = 0; i < TABLES; i++) {
         try_vectors();
         try_page();
+        try_run();
     }
     for (int i = 0; i < PAGES; i++)
         try_sets();

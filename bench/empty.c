@@ -35,6 +35,13 @@ uint64_t empty_take_item(const uint8_t *table, uint64_t table_length, uint8_t *p
     return 0;
 }
 
+uint64_t empty_collect(const uint8_t *table, uint64_t table_length, uint8_t *page, uint64_t page_length, const uint8_t *bytes,
+                       uint64_t bytes_length)
+{
+    (void)table, (void)table_length, (void)page, (void)page_length, (void)bytes, (void)bytes_length;
+    return 0;
+}
+
 struct plain_reading empty_read(const uint8_t *table, uint64_t table_length, const uint8_t *page, uint64_t page_length, uint64_t place,
                                 int32_t *out, uint64_t out_length)
 {

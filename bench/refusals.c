@@ -2,14 +2,15 @@
 
 #include "bench.h"
 
-enum { CALLS = 20000 };
+enum { CALLS = 20000, MOST_RECORDS = 3 };
 
 /* A table and a place that a call is asked about. */
 struct asked {
     struct table table;
     uint64_t places; /* of a good table */
     uint64_t place;
-    uint64_t length; /* of the row of the place, where there is one */
+    uint64_t row;    /* of the place, where there is one */
+    uint64_t length; /* of that row */
 };
 
 static uint8_t pages[2][CELL_SIZE * (MOST_PLACES + 1)];
@@ -42,8 +43,10 @@ static struct asked asked_by_chance(void)
     const struct table *table = &asked.table;
     asked.places = plain_survey(table->bytes, table->size, 0).places;
     asked.place = beside(chance_below(asked.places + 1));
-    if (asked.place < asked.places)
-        asked.length = table->bytes[plain_survey(table->bytes, table->size, asked.place).row * ROW_SIZE + AT_LENGTH];
+    if (asked.place < asked.places) {
+        asked.row = plain_survey(table->bytes, table->size, asked.place).row;
+        asked.length = table->bytes[asked.row * ROW_SIZE + AT_LENGTH];
+    }
     return asked;
 }
 
@@ -65,7 +68,17 @@ static void try_vector(const struct asked *asked)
     agree_on_quantize(&asked->table, &in, beside(RECORD_SIZE));
 }
 
-/* A cell of any state, a record for it that is the one that it holds or another, and what is then read there. */
+/* The same record again and again, and at times a part of it at the end. */
+static void try_run(const struct asked *asked, uint64_t size, const struct record *in)
+{
+    uint8_t run[MOST_RECORDS * RECORD_SIZE];
+    for (uint64_t i = 0; i < sizeof run; i++)
+        run[i] = in->bytes[i % RECORD_SIZE];
+    agree_on_collect(&asked->table, pages[0], pages[1], size, run, chance_below(sizeof run + 1));
+}
+
+/* A cell of any state, a record for it that is the one that it holds or another, alone and in a run, and what is then
+   read there. */
 static void try_cell(const struct asked *asked)
 {
     const uint64_t size = beside(CELL_SIZE * (asked->places > 0 ? asked->places : 1));
@@ -74,12 +87,13 @@ static void try_cell(const struct asked *asked)
     if (asked->place < asked->places) {
         uint8_t *cell = pages[0] + asked->place * CELL_SIZE;
         cell[AT_STATE] = (uint8_t)chance_below(4);
-        write_record(cell + AT_RECORD, beside(asked->place) & 0xffff, chance_below(4), chance_below(4), chance_below(64));
+        write_record(cell + AT_RECORD, beside(asked->place) & 0xffff, beside(asked->row) & 0xff, chance_below(4), chance_below(64));
         __builtin_memcpy(in.bytes, cell + AT_RECORD, RECORD_SIZE);
         __builtin_memcpy(pages[1] + asked->place * CELL_SIZE, cell, CELL_SIZE);
     }
     in.bytes[chance_below(RECORD_SIZE)] ^= (uint8_t)chance_below(2);
     agree_on_take(&asked->table, pages[0], pages[1], size, &in);
+    try_run(asked, size, &in);
     agree_on_read(&asked->table, pages[0], size, asked->place, beside(asked->length));
 }
 

@@ -1,7 +1,7 @@
-/* Taking: records for a page that has heard of every place. Of 16 records 14 are for places by chance, of which every
-   fourth is contested and the others hold this very record; one is for no place of the table, and one is a byte short.
-   So each take leaves the page as it is, however often it is run. That a place is held or contested comes about before,
-   and is compared. */
+/* Taking: records for a page that has heard of every place, one by one, and all of them as a run. Of 16 records 13 are
+   for places by chance, of which every fourth is contested and the others hold this very record; one is for no place of
+   the table, one is of a foreign row, and one is a byte short. In a run only the last one is short. So each take leaves
+   the page as it is, however often it is run. That a place is held or contested comes about before, and is compared. */
 
 #include "bench.h"
 
@@ -11,11 +11,15 @@ typedef uint32_t take_call(const uint8_t *table, uint64_t table_length, uint8_t 
                            uint64_t record_length);
 typedef uint64_t take_item_call(const uint8_t *table, uint64_t table_length, uint8_t *page, uint64_t page_length, const uint8_t *record,
                                 uint64_t record_length, uint64_t which);
+typedef uint64_t collect_call(const uint8_t *table, uint64_t table_length, uint8_t *page, uint64_t page_length, const uint8_t *bytes,
+                              uint64_t bytes_length);
 
-enum { KINDS = 16, CONTESTED_IN = 4 };
+/* What is wrong with a record; nothing with most of them. */
+enum { NO_PLACE, FOREIGN_ROW, SHORT, RIGHT, KINDS = 16, CONTESTED_IN = 4 };
 
 static const struct setting *setting; /* the one that is measured */
 static struct record arrivals[INPUTS];
+static uint8_t run[RECORD_SIZE * INPUTS]; /* their bytes */
 static struct record first[MOST_PLACES];          /* the first that comes for each place */
 static uint8_t pages[2][MOST_PLACES * CELL_SIZE]; /* ours, and that of plain C */
 
@@ -31,6 +35,12 @@ static void run_take_item(any_call *call, uint64_t inputs)
     take_item_call *const take_it = (take_item_call *)call;
     for (const struct record *in = arrivals; in < arrivals + inputs; in++)
         take_it(setting->table.bytes, setting->table.size, pages[0], setting->places * CELL_SIZE, in->bytes, in->length, 0);
+}
+
+static void run_collect(any_call *call, uint64_t inputs)
+{
+    collect_call *const collect_it = (collect_call *)call;
+    collect_it(setting->table.bytes, setting->table.size, pages[0], setting->places * CELL_SIZE, run, RECORD_SIZE * inputs - 1);
 }
 
 static uint64_t agree(const struct record *in)
@@ -55,11 +65,40 @@ static void fill_pages(void)
 static struct record record_of_kind(uint64_t kind)
 {
     struct record in = first[chance_below(setting->places)];
-    if (kind == 0)
+    if (kind == NO_PLACE)
         set_two_bytes(in.bytes + AT_PLACE, setting->places + chance_below(MOST_PLACES));
-    if (kind == 1)
+    if (kind == FOREIGN_ROW)
+        in.bytes[AT_ROW]++;
+    if (kind == SHORT)
         in.length = RECORD_SIZE - 1;
     return in;
+}
+
+static void draw_arrivals(void)
+{
+    const uint64_t refusals[] = {[NO_PLACE] = 8, [FOREIGN_ROW] = 9, [SHORT] = 4, [RIGHT] = 0};
+    for (uint64_t i = 0; i < INPUTS; i++) {
+        const uint64_t kind = i % KINDS;
+        arrivals[i] = record_of_kind(kind);
+        if (agree(&arrivals[i]) != refusals[kind < RIGHT ? kind : RIGHT])
+            fail("take", "refused or not, as was not meant");
+        __builtin_memcpy(run + RECORD_SIZE * i, arrivals[i].bytes, RECORD_SIZE);
+    }
+}
+
+/* The figures are those of one record, with its part of what is done once for the run. Of each 16 records those without
+   a place and of a foreign row are refused, and so is the last one, which is short. */
+static void measure_collect(void)
+{
+    const uint64_t size = setting->places * CELL_SIZE, refused = 2 * (INPUTS / KINDS) + 1;
+    char what[NAME];
+    if (agree_on_collect(&setting->table, pages[0], pages[1], size, run, sizeof run - 1) != refused)
+        fail("collect", "others refused than was meant");
+    snprintf(what, sizeof what, "collect, %s, a record", setting->name);
+    measure((struct rivals){what,
+                            {run_collect, (any_call *)probe_collect, (any_call *)empty_collect},
+                            {run_collect, (any_call *)plain_collect, (any_call *)empty_collect},
+                            INPUTS});
 }
 
 void bench_takes(const struct setting *with)
@@ -67,15 +106,11 @@ void bench_takes(const struct setting *with)
     char what[NAME];
     setting = with;
     fill_pages();
-    for (uint64_t i = 0; i < INPUTS; i++) {
-        const uint64_t kind = i % KINDS;
-        arrivals[i] = record_of_kind(kind);
-        if ((agree(&arrivals[i]) != 0) != (kind < 2))
-            fail("take", "refused or not, as was not meant");
-    }
+    draw_arrivals();
     snprintf(what, sizeof what, "take, %s", setting->name);
     measure((struct rivals){what,
                             {run_take_item, (any_call *)probe_take, (any_call *)empty_take_item},
                             {run_take, (any_call *)plain_take, (any_call *)empty_take},
                             COUNTED});
+    measure_collect();
 }

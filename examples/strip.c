@@ -17,6 +17,7 @@ static const uint8_t came[][RECORD] = {
     {0, 0, 0, 1, 0, 0, 0, 5}, /* for place 0 once more, the same */
     {0, 3, 0, 1, 0, 0, 0, 6}, /* for place 3, another one */
     {0, 9, 0, 1, 0, 0, 0, 5}, /* for place 9, which the table does not have */
+    {0, 0, 1, 1, 0, 0, 0, 5}, /* for place 0, but of row 1, which is not its row */
 };
 
 int main(void)

@@ -17,8 +17,9 @@ extern "C" {
 #endif
 
 /* "Calls for C": the version of this header, and of the formats that its calls take. The version is raised when a
-   program that was built for the version before would be given something else. */
-#define ALDRYNJA_VERSION 1
+   program that was built for the version before would be given something else: since version 2 a record of a foreign
+   row is refused with 9, and a held one is a fault of its cell (12). */
+#define ALDRYNJA_VERSION 2
 
 /* The version of the archive. A program may refuse to run where it is not ALDRYNJA_VERSION. */
 uint32_t aldrynja_version(void);
@@ -34,7 +35,9 @@ enum {
     ALDRYNJA_BUFFER_LENGTH = 4, /* the record is not 8 bytes, or the page not 9 for each place of the table */
     ALDRYNJA_BAD_TABLE = 7,     /* the pairing table is bad; its row is not told */
     ALDRYNJA_NO_SUCH_PLACE = 8, /* the record's place is not in the table */
-    ALDRYNJA_BAD_CELL = 12      /* the cell of the record's place has a state above 2, or a record of another place */
+    ALDRYNJA_FOREIGN_ROW = 9,   /* the record's row is not the row of its place */
+    ALDRYNJA_BAD_CELL = 12      /* the cell of the record's place has a state above 2, or is held with a record of
+                                   another place or of another row */
 };
 
 /* "The page": takes a record into a page.
@@ -44,9 +47,10 @@ enum {
    record  the 8 bytes that arrived; they are only read
 
    The call gives 0, and in the page the cell of the record's place has gone by the page rule and no other byte has
-   changed. Or the call gives the number of the first check that fails, in the order 7, 4, 8, 12, and every byte of the
-   page is as it was. The bytes of all three may be any, and so may their lengths, which are in bytes. A buffer of
-   length 0 may have any pointer, a null pointer too. The three buffers must not overlap. */
+   changed. Or the call gives the number of the first check that fails, in the order 7, 4, 8, 9, 12, and every byte of
+   the page is as it was. The radius number and the codeword of the record are not judged. The bytes of all three may be
+   any, and so may their lengths, which are in bytes. A buffer of length 0 may have any pointer, a null pointer too. The
+   three buffers must not overlap. */
 uint32_t aldrynja_take(const uint8_t *table, size_t table_length, uint8_t *page, size_t page_length,
                        const uint8_t *record, size_t record_length);
 

@@ -1,4 +1,4 @@
-/* Taking a record into a page, and reading a place; docs/RULES.md, "The page". */
+/* Taking a record into a page, or each of a run, and reading a place; docs/RULES.md, "The page". */
 
 #include "plain.h"
 
@@ -10,13 +10,15 @@ static int are_same(const uint8_t *one, const uint8_t *other)
     return all_of_one == all_of_other;
 }
 
-/* "8, 12", and the page rule. The record has 8 bytes, and the page its cells. */
-uint32_t plain_claim(uint64_t places, uint8_t *page, const uint8_t *record)
+static int are_of_one_place(const uint8_t *one, const uint8_t *other)
 {
-    const uint64_t place = pair_at(record + AT_PLACE);
-    if (place >= places)
-        return 8;
-    uint8_t *cell = page + CELL_SIZE * place, *held = cell + AT_RECORD;
+    return pair_at(one + AT_PLACE) == pair_at(other + AT_PLACE) && one[AT_ROW] == other[AT_ROW];
+}
+
+/* 12, and the page rule. The record is of the place of the cell, and of its row. */
+static inline uint32_t put_record(uint8_t *cell, const uint8_t *record)
+{
+    uint8_t *held = cell + AT_RECORD;
     if (cell[AT_STATE] == STATE_EMPTY) {
         cell[AT_STATE] = STATE_HELD;
         __builtin_memcpy(held, record, RECORD_SIZE);
@@ -24,25 +26,56 @@ uint32_t plain_claim(uint64_t places, uint8_t *page, const uint8_t *record)
     }
     if (cell[AT_STATE] != STATE_HELD)
         return cell[AT_STATE] == STATE_CONTESTED ? 0 : 12;
-    if (pair_at(held + AT_PLACE) != place)
+    if (are_same(held, record))
+        return 0;
+    if (!are_of_one_place(held, record))
         return 12;
-    if (!are_same(held, record)) {
-        cell[AT_STATE] = STATE_CONTESTED;
-        __builtin_memset(held, 0, RECORD_SIZE);
-    }
+    cell[AT_STATE] = STATE_CONTESTED;
+    __builtin_memset(held, 0, RECORD_SIZE);
     return 0;
 }
 
-/* "take | 7, 4, 8, 12". */
+/* "take | 7, 4, 8, 9, 12". The pass that checks the table finds the row of the record's place. */
 uint32_t plain_take(const uint8_t *table, uint64_t table_length, uint8_t *page, uint64_t page_length, const uint8_t *record,
                     uint64_t record_length)
 {
-    const uint64_t places = plain_survey(table, table_length, 0).places;
-    if (places == 0)
+    const int is_record = record_length == RECORD_SIZE;
+    const uint64_t place = is_record ? pair_at(record + AT_PLACE) : 0;
+    const struct survey survey = plain_survey(table, table_length, place);
+    if (survey.places == 0)
         return 7;
-    if (page_length != CELL_SIZE * places || record_length != RECORD_SIZE)
+    if (page_length != CELL_SIZE * survey.places || !is_record)
         return 4;
-    return plain_claim(places, page, record);
+    if (place >= survey.places)
+        return 8;
+    if (record[AT_ROW] != survey.row)
+        return 9;
+    return put_record(page + CELL_SIZE * place, record);
+}
+
+/* Whether the take is refused. The record has 8 bytes, and the page its cells. A record claims its place if the place
+   is one of the record's own row. */
+int plain_claim(const struct row_ends *rows, uint8_t *page, const uint8_t *record)
+{
+    const uint32_t place = pair_at(record + AT_PLACE), row = record[AT_ROW];
+    if (row >= rows->number || place < rows->ends[row] || place >= rows->ends[row + 1])
+        return 1;
+    return put_record(page + CELL_SIZE * place, record) != 0;
+}
+
+/* "how many takes were refused". Where the rows end is found once. */
+uint64_t plain_collect(const uint8_t *table, uint64_t table_length, uint8_t *page, uint64_t page_length, const uint8_t *bytes,
+                       uint64_t bytes_length)
+{
+    const uint64_t places = plain_survey(table, table_length, 0).places;
+    const uint64_t records = bytes_length / RECORD_SIZE, shorter = bytes_length % RECORD_SIZE != 0;
+    if (places == 0 || page_length != CELL_SIZE * places)
+        return records + shorter;
+    const struct row_ends rows = plain_row_ends(table, table_length);
+    uint64_t refused = shorter;
+    for (uint64_t i = 0; i < records; i++)
+        refused += (uint64_t)plain_claim(&rows, page, bytes + i * RECORD_SIZE);
+    return refused;
 }
 
 static struct plain_reading zeros(uint32_t answer, uint32_t reason, uint64_t length, int32_t *out)
@@ -51,12 +84,10 @@ static struct plain_reading zeros(uint32_t answer, uint32_t reason, uint64_t len
     return (struct plain_reading){0, answer, reason};
 }
 
-static struct plain_reading look_at_held(const uint8_t *row, uint64_t row_number, const uint8_t *record, int32_t *out)
+static struct plain_reading look_at_held(const uint8_t *row, const uint8_t *record, int32_t *out)
 {
     const uint64_t length = row[AT_LENGTH], number = record[AT_RADIUS_NUMBER];
     const uint64_t index = (uint64_t)pair_at(record + AT_CODEWORD) << 16 | pair_at(record + AT_CODEWORD + 2);
-    if (record[AT_ROW] != row_number)
-        return zeros(UNREADABLE, 9, length, out);
     if (number >= row[AT_NUMBER_OF_RADII])
         return zeros(UNREADABLE, 10, length, out);
     const uint64_t radius = row[AT_RADII + number], power = counts.powers[length][radius];
@@ -76,8 +107,8 @@ struct plain_reading plain_look(const uint8_t *row, uint64_t row_number, const u
     case STATE_CONTESTED:
         return zeros(CONTESTED, 0, row[AT_LENGTH], out);
     case STATE_HELD:
-        if (pair_at(cell + AT_RECORD + AT_PLACE) == place)
-            return look_at_held(row, row_number, cell + AT_RECORD, out);
+        if (pair_at(cell + AT_RECORD + AT_PLACE) == place && cell[AT_RECORD + AT_ROW] == row_number)
+            return look_at_held(row, cell + AT_RECORD, out);
         break;
     default:
         break;

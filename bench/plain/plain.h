@@ -27,6 +27,12 @@ struct survey {
     uint64_t row;
 };
 
+/* Where the rows of a good table end: row r has the places from ends[r] to before ends[r + 1]. */
+struct row_ends {
+    uint32_t number; /* of rows */
+    uint32_t ends[MOST_ROWS + 1];
+};
+
 /* The refusal or 0; the answer and the reason of an unreadable one. */
 struct plain_reading {
     uint32_t refusal;
@@ -52,16 +58,19 @@ uint32_t plain_point(uint64_t length, uint64_t radius, uint64_t index, int32_t *
 
 /* table.c */
 struct survey plain_survey(const uint8_t *table, uint64_t table_length, uint64_t place);
+struct row_ends plain_row_ends(const uint8_t *table, uint64_t table_length);
 
 /* quantize.c */
 uint32_t plain_quantize(const uint8_t *table, uint64_t table_length, uint64_t place, const float *coefficients,
                         uint64_t coefficients_length, uint8_t *record, uint64_t record_length);
 
 /* page.c: of the calls, and with a table that has passed its check */
-uint32_t plain_claim(uint64_t places, uint8_t *page, const uint8_t *record);
+int plain_claim(const struct row_ends *rows, uint8_t *page, const uint8_t *record);
 struct plain_reading plain_look(const uint8_t *row, uint64_t row_number, const uint8_t *cell, uint64_t place, int32_t *out);
 uint32_t plain_take(const uint8_t *table, uint64_t table_length, uint8_t *page, uint64_t page_length, const uint8_t *record,
                     uint64_t record_length);
+uint64_t plain_collect(const uint8_t *table, uint64_t table_length, uint8_t *page, uint64_t page_length, const uint8_t *bytes,
+                       uint64_t bytes_length);
 struct plain_reading plain_read(const uint8_t *table, uint64_t table_length, const uint8_t *page, uint64_t page_length, uint64_t place,
                                 int32_t *out, uint64_t out_length);
 

@@ -1,5 +1,5 @@
-/* The check of a pairing table in one pass, which finds the row of a place on the way; docs/RULES.md,
-   "Pairing table". */
+/* The check of a pairing table in one pass, which finds the row of a place on the way, and where the rows of a good one
+   end; docs/RULES.md, "Pairing table". */
 
 #include "plain.h"
 
@@ -41,4 +41,12 @@ struct survey plain_survey(const uint8_t *table, uint64_t table_length, uint64_t
         survey.row += survey.places <= place;
     }
     return survey;
+}
+
+struct row_ends plain_row_ends(const uint8_t *table, uint64_t table_length)
+{
+    struct row_ends rows = {.number = (uint32_t)(table_length / ROW_SIZE)};
+    for (uint32_t row = 0; row < rows.number; row++)
+        rows.ends[row + 1] = rows.ends[row] + pair_at(table + row * ROW_SIZE + AT_PLACES);
+    return rows;
 }

@@ -133,15 +133,16 @@ static void put_tally(const uint64_t *tally, uint64_t refused)
 }
 
 /* How many takes are refused. */
-static uint64_t take_all(uint64_t places)
+static uint64_t take_all(const uint8_t *table, uint64_t table_length)
 {
     static uint8_t block[BLOCK];
+    const struct row_ends rows = plain_row_ends(table, table_length);
     const int file = open("records.bin", O_RDONLY);
     uint64_t refused = 0;
     for (size_t size = sizeof block; size == sizeof block;) {
         size = fill(file, block, sizeof block);
         for (size_t at = 0; at + RECORD_SIZE <= size; at += RECORD_SIZE)
-            refused += plain_claim(places, page, block + at) != 0;
+            refused += (uint64_t)plain_claim(&rows, page, block + at);
         refused += size % RECORD_SIZE != 0;
     }
     close(file);
@@ -160,7 +161,7 @@ int main(void)
     if (places == 0) {
         end_line(put_word(next_line(), "refused 7", 9));
     } else {
-        const uint64_t refused = take_all(places);
+        const uint64_t refused = take_all(table, size);
         put_places(table, places, tally);
         put_tally(tally, refused);
     }

@@ -20,7 +20,7 @@ static const struct {
 } looks[READINGS] = {
     [SOUND] = {"sound", "shown as it came", "none", GREY, ""},
     [MENDED] = {"mended", "one bit taken off", "#009e73", DARK, "<path d='M-6 0H6M0-6V6'/>"},
-    [MISSING] = {"missing", "nothing came", "#56b4e9", DARK, "<circle r='5'/>"},
+    [MISSING] = {"missing", "no record claims it", "#56b4e9", DARK, "<circle r='5'/>"},
     [CONTESTED] = {"contested", "records that differ", "#e69f00", DARK,
                    "<path d='M-8-6L0 0L-8 6zM8-6L0 0L8 6z' fill='" DARK "' stroke='none'/>"},
     [UNREADABLE] = {"unreadable", "cannot be right", "#cc79a7", DARK, "<path d='M-4-3C-4-8 4-8 4-3C4 0 0 0 0 3M0 5V8'/>"},

@@ -50,15 +50,17 @@ struct box {
     uint64_t lines;
 };
 
-/* What becomes of a place, judged by what was sent for it. */
+/* What becomes of a place, judged by what was sent for it. A record of a foreign row names the place, but claims
+   nothing. */
 enum fate {
     AS_SENT,
+    AS_SENT_BESIDE_FOREIGN,
     SOUND_NOT_AS_SENT,
     MENDED_AS_SENT,
     MENDED_NOT_AS_SENT,
     NOTHING_CAME,
+    FOREIGN_CAME,
     TWO_CAME,
-    ROW_CHANGED,
     RADIUS_NUMBER_CHANGED,
     CODEWORD_PAST_WIDTH,
     FATES /* how many there are */
@@ -68,7 +70,8 @@ enum fate {
 struct fates {
     enum reading_word answers[PLACES];
     enum fate at[PLACES];
-    uint64_t refused; /* takes */
+    uint64_t foreign[PLACES];         /* records of a foreign row that name each place */
+    uint64_t takes[MOST_REFUSAL + 1]; /* by the number of their refusal, 0 where there is none */
 };
 
 /* picture.c: the picture, into bands and back */
@@ -93,7 +96,7 @@ void broadcast(const struct sent *sent, struct capture *to);
 
 /* fates.c: the fates, and an error if a place has another one than is meant, or no place has one of them */
 void judge_fates(const struct sent *sent, const struct capture *capture, struct fates *to);
-void require_fates(const struct fates *fates, const struct capture *capture);
+void require_fates(const struct fates *fates);
 
 /* drawing.c: the pictures and what became of each place, as an SVG file */
 void write_drawing(const char *folder, const char *name, const struct picture *shown, const struct fates *fates);

@@ -44,7 +44,7 @@ int main(int words, char **word)
     require_picture(&sent);
     broadcast(&sent, &capture);
     judge_fates(&sent, &capture, &fates);
-    require_fates(&fates, &capture);
+    require_fates(&fates);
     receive(&capture, &received);
     show(&received, &shown);
     print_pictures(&shown);

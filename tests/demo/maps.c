@@ -56,7 +56,7 @@ static void draw_places(FILE *to, uint64_t band, const struct fates *fates, int 
     for (uint64_t place = 0; place < PLACES; place++)
         if (row_of(&demo_table, place) == band && (fates->answers[place] == SOUND) == are_sound) {
             draw_box(to, fates->answers[place], area_of(place));
-            if (fates->at[place] != AS_SENT)
+            if (!are_sound || fates->at[place] == SOUND_NOT_AS_SENT)
                 draw_mark(to, fates->answers[place], place);
         }
 }

@@ -16,20 +16,23 @@ struct event {
     enum fate fate;
 };
 
-/* To the places that are not here nothing happens. The record of place 4 comes as one of place 5, and that of place
-   45 as one of place 109, which the table does not have. */
+/* To the places that are not here nothing happens. The record of place 4 comes as one of place 5, which is of the same
+   row, that of place 47 as one of place 15, which is of another row, and that of place 45 as one of place 109, which
+   the table does not have. */
 static const struct event events[] = {
     {4, CHANGED, AT_PLACE + 1, 1, NOTHING_CAME},
     {5, UNCHANGED, 0, 0, TWO_CAME},
     {14, BOTH, AT_CODEWORD + 3, 4, TWO_CAME},
+    {15, UNCHANGED, 0, 0, AS_SENT_BESIDE_FOREIGN},
     {17, LOST, 0, 0, NOTHING_CAME},
     {20, CHANGED, AT_CODEWORD + 2, 2, MENDED_AS_SENT},
     {29, BOTH, AT_RADIUS_NUMBER, 1, TWO_CAME},
-    {30, CHANGED, AT_ROW, 2, ROW_CHANGED},
+    {30, CHANGED, AT_ROW, 2, FOREIGN_CAME},
     {31, CHANGED, AT_CODEWORD + 3, 1, SOUND_NOT_AS_SENT},
     {35, CHANGED, AT_CODEWORD + 2, 32, MENDED_NOT_AS_SENT},
     {40, CHANGED, AT_RADIUS_NUMBER, 4, RADIUS_NUMBER_CHANGED},
     {45, CHANGED, AT_PLACE + 1, 64, NOTHING_CAME},
+    {47, CHANGED, AT_PLACE + 1, 32, NOTHING_CAME},
     {49, CHANGED, AT_CODEWORD, 8, CODEWORD_PAST_WIDTH},
     {52, CUT, 0, 0, NOTHING_CAME},
 };

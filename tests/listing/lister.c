@@ -29,12 +29,11 @@ int main(void)
     count_patterns_and_shapes();
     struct table table;
     table.size = read_file("pairing.bin", table.bytes, sizeof table.bytes);
-    const struct judgment judgment = judge(table.bytes, table.size);
-    if (judgment.faults) {
+    if (judge(table.bytes, table.size).faults) {
         printf("refused 7\n");
         return 0;
     }
-    begin_gathering(&gathering, judgment.places);
+    begin_gathering(&gathering, &table);
     gather_records(&gathering);
     print_listing(&table, &gathering);
     return 0;

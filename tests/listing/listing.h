@@ -19,8 +19,9 @@ struct gathering {
     uint64_t places; /* in the table */
     uint64_t refused;
     struct {
+        uint64_t row; /* of the place */
         uint64_t claims;
-        int is_contested; /* two that came for the place differ */
+        int is_contested; /* two that claim the place differ */
         uint8_t first[RECORD_SIZE];
     } came[MOST_PLACES];
 };
@@ -32,7 +33,7 @@ struct capture {
 };
 
 /* text/gathering.c: what came for each place, in whatever order */
-void begin_gathering(struct gathering *to, uint64_t places);
+void begin_gathering(struct gathering *to, const struct table *table);
 void gather(struct gathering *to, const uint8_t *part, uint64_t size);
 void gather_run(struct gathering *to, const uint8_t *run, uint64_t size);
 void cell_of(const struct gathering *from, uint64_t place, uint8_t *cell);

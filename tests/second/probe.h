@@ -37,7 +37,7 @@ uint64_t probe_quantize_value(const uint8_t *table, uint64_t table_length, uint6
    the list is 0. A refusal is the list of its number and what the rules name with it: the row of 7, and in the
    tally the place of 12. In send 11 names the place and then the coordinate. */
 
-/* The list 0, and the record is taken into the page; or refused 7, 4, 8, 12, and the page is as it was. */
+/* The list 0, and the record is taken into the page; or refused 7, 4, 8, 9, 12, and the page is as it was. */
 uint64_t probe_take(const uint8_t *table, uint64_t table_length, uint8_t *page, uint64_t page_length, const uint8_t *record,
                     uint64_t record_length, uint64_t which);
 
@@ -46,8 +46,8 @@ uint64_t probe_collect(const uint8_t *table, uint64_t table_length, uint8_t *pag
                        uint64_t bytes_length);
 
 /* The list 0, answer, reason: the answers are sound, mended, missing, contested and unreadable, from 0 on; the reason
-   is 9, 10 or 14 where the place is unreadable, else 0. `out` has the point, or zeros. Or refused 7, 8, 4, 12, and
-   `out` is as it was. */
+   is 10 or 14 where the place is unreadable, else 0. `out` has the point, or zeros. Or refused 7, 8, 4, 12, and `out`
+   is as it was. */
 uint64_t probe_read(const uint8_t *table, uint64_t table_length, const uint8_t *page, uint64_t page_length, uint64_t place,
                     int32_t *out, uint64_t out_length, uint64_t which);
 

@@ -2,6 +2,9 @@
 
 #include "send.h"
 
+/* The lengths of the lists that refusals are: 7 names the row, 11 the place and the coordinate. */
+static const uint8_t refusals[MOST_REFUSAL + 1] = {[7] = 2, [4] = 1, [11] = 3};
+
 /* The bits of the coefficients, high digit first. */
 static void read_run(struct text *text, struct sending *to)
 {
@@ -16,38 +19,19 @@ static void read_run(struct text *text, struct sending *to)
 
 static void read_records(struct text *text, struct send_case *to)
 {
-    read_word(text, "ok ");
-    to->expected.list = (struct list){{0}};
     if (read_bytes(text, to->expected.records, sizeof to->expected.records) != to->sending.buffer_length)
         malformed(text, "the records are not as long as the buffer");
-}
-
-/* The refusal, and as many values as it names. */
-static void read_refusal(struct text *text, struct list *to)
-{
-    read_word(text, "refused ");
-    *to = (struct list){{read_number(text)}};
-    const uint64_t number = to->items[0], values = number == 7 ? 1 : number == 11 ? 2 : 0;
-    if (values == 0 && number != 4)
-        malformed(text, "no refusal of send");
-    for (uint64_t i = 1; i <= values; i++) {
-        read_word(text, " ");
-        to->items[i] = read_number(text);
-    }
 }
 
 void read_case(struct text *text, struct send_case *to)
 {
     read_word(text, "send ");
-    to->sending.table.size = read_bytes(text, to->sending.table.bytes, sizeof to->sending.table.bytes);
+    read_table(text, &to->sending.table);
     read_word(text, " ");
     read_run(text, &to->sending);
     read_word(text, " ");
     to->sending.buffer_length = read_number(text);
     read_word(text, " ");
-    if (is_next(text, 'o'))
+    if (read_answer(text, &to->expected.list, refusals))
         read_records(text, to);
-    else
-        read_refusal(text, &to->expected.list);
-    read_word(text, "\n");
 }

@@ -14,16 +14,26 @@ static const struct {
     {2, 3, 12}, {3, 2, 18}, {4, 0, 1}, {16, 12, 3575055360}, {16, 13, 0}, {0, 0, 0}, {17, 0, 0}, {1, 33, 0},
 };
 
-/* `pairing.bin`, the two records of `records.bin`, the first one with a bit changed, and one of a place
-   that is not there. */
+/* `pairing.bin`, the two records of `records.bin`, the first one with a bit of its codeword changed, the first one with
+   another row, and two of a place that is not there. */
 static const uint8_t pairing[] = {3, 2, 0, 2, 0, 0, 0, 0, 0, 0, 1, 0, 0, 2, 0, 0};
 static const uint8_t first[] = {0, 0, 0, 1, 0, 0, 0, 0x05}, second[] = {0, 1, 0, 1, 0, 0, 0, 0x12};
-static const uint8_t changed[] = {0, 0, 0, 1, 0, 0, 0, 0x07}, past[] = {0, 2, 0, 1, 0, 0, 0, 0x05};
+static const uint8_t changed[] = {0, 0, 0, 1, 0, 0, 0, 0x07}, foreign[] = {0, 0, 1, 1, 0, 0, 0, 0x05};
+static const uint8_t past[] = {0, 2, 0, 1, 0, 0, 0, 0x05}, foreign_past[] = {0, 2, 1, 1, 0, 0, 0, 0x05};
 
-/* One take after the other into a page that is empty at first, but for a state that is set before: what is lent, and
+/* The cells that come about, and two that only somebody else can make. */
+#define FIRST 1, 0, 0, 0, 1, 0, 0, 0, 0x05
+#define SECOND 1, 0, 1, 0, 1, 0, 0, 0, 0x12
+#define BOTH_CAME 2, 0, 0, 0, 0, 0, 0, 0, 0
+#define OF_ANOTHER_ROW 1, 0, 0, 1, 1, 0, 0, 0, 0x05
+#define STATE_3 3, 0, 0, 0, 0, 0, 0, 0, 0
+
+/* One take after the other into a page that is empty at first, but for one byte that is set before: what is lent, and
    then the answer and the page. */
+enum { ROW_BYTE = AT_RECORD + AT_ROW };
 static const struct {
-    uint8_t state;
+    uint64_t at;
+    uint8_t byte;
     uint64_t table_length;
     uint64_t page_length;
     const uint8_t *record;
@@ -31,17 +41,32 @@ static const struct {
     uint32_t answer;
     uint8_t page[2 * CELL_SIZE];
 } takes[] = {
-    {0, 16, 18, first, 8, ALDRYNJA_TAKEN, {1, 0, 0, 0, 1, 0, 0, 0, 0x05}},
-    {1, 16, 18, second, 8, ALDRYNJA_TAKEN, {1, 0, 0, 0, 1, 0, 0, 0, 0x05, 1, 0, 1, 0, 1, 0, 0, 0, 0x12}},
-    {1, 16, 18, first, 8, ALDRYNJA_TAKEN, {1, 0, 0, 0, 1, 0, 0, 0, 0x05, 1, 0, 1, 0, 1, 0, 0, 0, 0x12}},
-    {1, 16, 18, past, 8, ALDRYNJA_NO_SUCH_PLACE, {1, 0, 0, 0, 1, 0, 0, 0, 0x05, 1, 0, 1, 0, 1, 0, 0, 0, 0x12}},
-    {1, 16, 18, changed, 7, ALDRYNJA_BUFFER_LENGTH, {1, 0, 0, 0, 1, 0, 0, 0, 0x05, 1, 0, 1, 0, 1, 0, 0, 0, 0x12}},
-    {1, 16, 17, changed, 8, ALDRYNJA_BUFFER_LENGTH, {1, 0, 0, 0, 1, 0, 0, 0, 0x05, 1, 0, 1, 0, 1, 0, 0, 0, 0x12}},
-    {1, 15, 18, changed, 8, ALDRYNJA_BAD_TABLE, {1, 0, 0, 0, 1, 0, 0, 0, 0x05, 1, 0, 1, 0, 1, 0, 0, 0, 0x12}},
-    {1, 16, 18, changed, 8, ALDRYNJA_TAKEN, {2, 0, 0, 0, 0, 0, 0, 0, 0, 1, 0, 1, 0, 1, 0, 0, 0, 0x12}},
-    {2, 16, 18, first, 8, ALDRYNJA_TAKEN, {2, 0, 0, 0, 0, 0, 0, 0, 0, 1, 0, 1, 0, 1, 0, 0, 0, 0x12}},
-    {3, 16, 18, first, 8, ALDRYNJA_BAD_CELL, {3, 0, 0, 0, 0, 0, 0, 0, 0, 1, 0, 1, 0, 1, 0, 0, 0, 0x12}},
+    {AT_STATE, 0, 16, 18, foreign, 8, ALDRYNJA_FOREIGN_ROW, {0}},
+    {AT_STATE, 0, 16, 18, first, 8, ALDRYNJA_TAKEN, {FIRST}},
+    {AT_STATE, 1, 16, 18, second, 8, ALDRYNJA_TAKEN, {FIRST, SECOND}},
+    {AT_STATE, 1, 16, 18, first, 8, ALDRYNJA_TAKEN, {FIRST, SECOND}},
+    {AT_STATE, 1, 16, 18, past, 8, ALDRYNJA_NO_SUCH_PLACE, {FIRST, SECOND}},
+    {AT_STATE, 1, 16, 18, changed, 7, ALDRYNJA_BUFFER_LENGTH, {FIRST, SECOND}},
+    {AT_STATE, 1, 16, 17, changed, 8, ALDRYNJA_BUFFER_LENGTH, {FIRST, SECOND}},
+    {AT_STATE, 1, 15, 18, changed, 8, ALDRYNJA_BAD_TABLE, {FIRST, SECOND}},
+    {AT_STATE, 1, 16, 18, foreign, 8, ALDRYNJA_FOREIGN_ROW, {FIRST, SECOND}},
+    {AT_STATE, 1, 16, 18, foreign_past, 8, ALDRYNJA_NO_SUCH_PLACE, {FIRST, SECOND}},
+    {AT_STATE, 1, 16, 18, foreign, 7, ALDRYNJA_BUFFER_LENGTH, {FIRST, SECOND}},
+    {AT_STATE, 1, 16, 17, foreign, 8, ALDRYNJA_BUFFER_LENGTH, {FIRST, SECOND}},
+    {AT_STATE, 1, 15, 18, foreign, 8, ALDRYNJA_BAD_TABLE, {FIRST, SECOND}},
+    {ROW_BYTE, 1, 16, 18, first, 8, ALDRYNJA_BAD_CELL, {OF_ANOTHER_ROW, SECOND}},
+    {ROW_BYTE, 1, 16, 18, foreign, 8, ALDRYNJA_FOREIGN_ROW, {OF_ANOTHER_ROW, SECOND}},
+    {ROW_BYTE, 0, 16, 18, changed, 8, ALDRYNJA_TAKEN, {BOTH_CAME, SECOND}},
+    {AT_STATE, 2, 16, 18, first, 8, ALDRYNJA_TAKEN, {BOTH_CAME, SECOND}},
+    {AT_STATE, 2, 16, 18, foreign, 8, ALDRYNJA_FOREIGN_ROW, {BOTH_CAME, SECOND}},
+    {AT_STATE, 3, 16, 18, first, 8, ALDRYNJA_BAD_CELL, {STATE_3, SECOND}},
+    {AT_STATE, 3, 16, 18, foreign, 8, ALDRYNJA_FOREIGN_ROW, {STATE_3, SECOND}},
 };
+
+/* The table of the page of three places: the places 0 and 1 are of row 0, and place 2 is of row 1. */
+static const uint8_t three_places[] = {3, 2, 0, 2, 0, 0, 0, 0, 0, 0, 1, 0,  0, 2, 0, 0,
+                                       2, 2, 0, 4, 0, 0, 0, 0, 0, 0, 0, 77, 0, 1, 0, 0};
+enum { PLACES = 3, ROWS = 256 };
 
 static void compare_case(const char *call, uint64_t number, uint64_t expected, uint64_t got)
 {
@@ -51,18 +76,45 @@ static void compare_case(const char *call, uint64_t number, uint64_t expected, u
     }
 }
 
-void compare_cases(void)
+static void compare_takes(void)
 {
     uint8_t page[2 * CELL_SIZE] = {0};
-    compare_case("aldrynja_version", 0, ALDRYNJA_VERSION, aldrynja_version());
-    for (uint64_t i = 0; i < ENTRIES(counts); i++)
-        compare_case("aldrynja_count", i, counts[i].n, aldrynja_count(counts[i].length, counts[i].radius));
     for (uint64_t i = 0; i < ENTRIES(takes); i++) {
-        page[AT_STATE] = takes[i].state;
+        page[takes[i].at] = takes[i].byte;
         compare_case("aldrynja_take", i, takes[i].answer,
                      aldrynja_take(pairing, takes[i].table_length, page, takes[i].page_length, takes[i].record, takes[i].length));
         for (uint64_t j = 0; j < sizeof page; j++)
             compare_case("the page of aldrynja_take", i, takes[i].page[j], page[j]);
     }
-    printf("cases: 1 version, %lu counts, %lu takes\n", ENTRIES(counts), ENTRIES(takes));
+}
+
+/* Every row for a place, into a new page. */
+static void compare_rows_at(uint8_t place)
+{
+    const uint8_t own_row = place == 2 ? 1 : 0;
+    for (int row = 0; row < ROWS; row++) {
+        const uint8_t record[RECORD_SIZE] = {0, place, (uint8_t)row, 1, 0, 0, 0, 0x05};
+        const uint64_t other_row = place < PLACES ? ALDRYNJA_FOREIGN_ROW : ALDRYNJA_NO_SUCH_PLACE;
+        const int is_taken = place < PLACES && row == own_row;
+        uint8_t page[PLACES * CELL_SIZE] = {0};
+        compare_case("aldrynja_take, a row", (uint64_t)row, is_taken ? ALDRYNJA_TAKEN : other_row,
+                     aldrynja_take(three_places, sizeof three_places, page, sizeof page, record, RECORD_SIZE));
+        for (uint64_t j = 0; j < sizeof page; j++) {
+            const int is_in_cell = is_taken && j / CELL_SIZE == place;
+            const uint8_t held = j % CELL_SIZE == AT_STATE ? 1 : record[j % CELL_SIZE - AT_RECORD];
+            compare_case("the page of aldrynja_take, a row", (uint64_t)row, is_in_cell ? held : 0, page[j]);
+        }
+    }
+}
+
+void compare_cases(void)
+{
+    compare_case("the version of the header", 0, 2, ALDRYNJA_VERSION);
+    compare_case("aldrynja_version", 0, 2, aldrynja_version());
+    for (uint64_t i = 0; i < ENTRIES(counts); i++)
+        compare_case("aldrynja_count", i, counts[i].n, aldrynja_count(counts[i].length, counts[i].radius));
+    compare_takes();
+    for (uint8_t place = 0; place <= PLACES; place++)
+        compare_rows_at(place);
+    printf("cases: 1 version, %lu counts, %lu takes, %d rows at each of %d places\n", ENTRIES(counts), ENTRIES(takes), ROWS, PLACES + 1);
 }

@@ -45,7 +45,7 @@ static void compare_at_edge(const struct case_of_page *of)
     const struct arrival *record = &of->arrival;
     uint8_t *lent_table = lend(table_end, table->bytes, table->size), *lent_page = lend(page_end, cell_at(&page, 0), page.size);
     uint8_t *lent_record = lend(record_end, record->bytes, record->length), before[CELL_SIZE];
-    copy_claimed(&page, record, before);
+    copy_named(&page, record, before);
     const struct taking taking = {table, &page, record, before, take(table, &page, record)};
     const uint64_t refusal = taking.expected.items[0];
     call_take(&taking, lent_table, lent_page, lent_record);
@@ -56,6 +56,16 @@ static void compare_at_edge(const struct case_of_page *of)
     note_slate(EDGE_PART_OF_ROW, table->size % ROW_SIZE != 0);
     note_slate(EDGE_PAGE_SHORT, refusal == 4 && page.size < CELL_SIZE * page.places);
     note_slate(EDGE_RECORD_SHORT, refusal == 4 && record->length < RECORD_SIZE);
+    note_slate(EDGE_FOREIGN_ROW, refusal == 9);
+}
+
+/* With a record of a place of the table, of its row and of another one. */
+static void compare_rows_at_edge(struct case_of_page *of, uint64_t place)
+{
+    set_place(&of->table, place, of->arrival.bytes);
+    compare_at_edge(of);
+    of->arrival.bytes[AT_ROW] = foreign_row(&of->table, place);
+    compare_at_edge(of);
 }
 
 /* Every length of a record, and of a page from none to two cells too long. */
@@ -63,12 +73,10 @@ static void compare_case_at_edge(const struct case_of_page *right)
 {
     struct case_of_page of = *right;
     for (of.arrival.length = 0; of.arrival.length <= MOST_TAKEN; of.arrival.length++)
-        compare_at_edge(&of);
+        compare_rows_at_edge(&of, right->place);
     of.arrival.length = RECORD_SIZE;
-    for (page.size = 0; page.size <= CELL_SIZE * (page.places + CELLS_BEHIND); page.size++) {
-        set_two_bytes(of.arrival.bytes + AT_PLACE, chance_below(2) ? page.places - 1 : chance_below(page.places));
-        compare_at_edge(&of);
-    }
+    for (page.size = 0; page.size <= CELL_SIZE * (page.places + CELLS_BEHIND); page.size++)
+        compare_rows_at_edge(&of, chance_below(2) ? page.places - 1 : chance_below(page.places));
 }
 
 /* Every size of good rows, the page as large as the whole ones would have it. */
@@ -78,8 +86,7 @@ static void compare_tables_at_edge(void)
     for (of.table.size = 0; of.table.size <= MOST_SIZE; of.table.size++) {
         const uint64_t places = places_of_rows(&of.table);
         begin_page(&page, places > 0 ? places : 1);
-        set_two_bytes(of.arrival.bytes + AT_PLACE, page.places - 1);
-        compare_at_edge(&of);
+        compare_rows_at_edge(&of, page.places - 1);
     }
 }
 

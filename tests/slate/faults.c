@@ -43,7 +43,7 @@ static void compare_bad_tables(void)
         of.table = bad_table_by_chance((enum fault)(i / BAD_TABLES));
         const uint64_t places = places_of_rows(&of.table);
         page.size = CELL_SIZE * places;
-        set_two_bytes(of.arrival.bytes + AT_PLACE, places > 0 ? chance_below(places) : 0);
+        set_place(&of.table, places > 0 ? chance_below(places) : 0, of.arrival.bytes);
         own_figure("refusal of a take with a bad table", take_of(&of), 7);
     }
 }

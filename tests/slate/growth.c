@@ -1,6 +1,6 @@
 /* Takes by chance into pages of every size that go on growing: from empty ones, and from ones with cells of every state
-   and at fault; records that are held already, that differ in one byte or in several, and that are not in the table;
-   lengths that are wrong, and tables that are bad. See docs/RULES.md, "The page". */
+   and at fault; records that are held already, that differ in one byte or in several, that are of another row, and that
+   are not in the table; lengths that are wrong, and tables that are bad. See docs/RULES.md, "The page". */
 
 #include "slate.h"
 
@@ -66,7 +66,7 @@ static uint64_t next_place(struct growing *growing)
     return place;
 }
 
-/* A record that claims the place, with bytes behind it that repeat it, so that it may be lent too long. */
+/* A record for the place, with bytes behind it that repeat it, so that it may be lent too long. */
 static struct arrival record_at(const struct growing *growing, uint64_t place)
 {
     struct arrival record = arrival_by_chance(&growing->table, &page, place);

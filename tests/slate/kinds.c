@@ -12,7 +12,7 @@ enum { LEAST = 200, LEAST_OF_CLASS = 10000, LEAST_TAKES = 1000000 };
 /* The last number of places of each class of pages; each class begins behind the one before. */
 const uint64_t most_places[CLASSES] = {1, 8, 64, 255, 256, 1024, 4094, 4095, 4096};
 
-/* What a take makes of the cell that it claims, or why it claims none. */
+/* What a take makes of the cell that it claims, or why it is refused. */
 enum outcome {
     ZEROS_HELD,
     GARBAGE_HELD,
@@ -23,6 +23,7 @@ enum outcome {
     WITH_7,
     WITH_4,
     WITH_8,
+    WITH_9,
     WITH_12,
     OUTCOMES
 };
@@ -37,6 +38,7 @@ static const char *const outcome_names[OUTCOMES] = {
     [WITH_7] = "takes refused with 7, in pages of places up to",
     [WITH_4] = "takes refused with 4, in pages of places up to",
     [WITH_8] = "takes refused with 8, in pages of places up to",
+    [WITH_9] = "takes refused with 9, in pages of places up to",
     [WITH_12] = "takes refused with 12, in pages of places up to",
 };
 
@@ -73,6 +75,7 @@ static const char *const names[SLATE_KINDS] = {
     [EDGE_PART_OF_ROW] = "at the end of memory with a part of a row",
     [EDGE_PAGE_SHORT] = "at the end of memory with a page that is too short",
     [EDGE_RECORD_SHORT] = "at the end of memory with a record that is too short",
+    [EDGE_FOREIGN_ROW] = "at the end of memory that are refused with 9",
 };
 
 static uint64_t kinds[SLATE_KINDS], outcomes[CLASSES][OUTCOMES], fitting[FAULTS];
@@ -134,9 +137,10 @@ void note_lending(const struct lending *lending, uint64_t refusal)
 static enum outcome outcome_of(const struct taking *taking)
 {
     static const uint8_t zeros[RECORD_SIZE];
+    static const enum outcome refused[MOST_REFUSAL + 1] = {[7] = WITH_7, [4] = WITH_4, [8] = WITH_8, [9] = WITH_9, [12] = WITH_12};
     const uint64_t refusal = taking->expected.items[0];
     if (refusal != 0)
-        return refusal == 7 ? WITH_7 : refusal == 4 ? WITH_4 : refusal == 8 ? WITH_8 : WITH_12;
+        return refused[refusal];
     const uint8_t *before = taking->before, *after = cell_at(taking->page, two_bytes(taking->arrival->bytes + AT_PLACE));
     const int is_zeros = memcmp(before + AT_RECORD, zeros, RECORD_SIZE) == 0;
     const int is_arrived = memcmp(after + AT_RECORD, taking->arrival->bytes, RECORD_SIZE) == 0;
@@ -162,6 +166,7 @@ void require_slate_kinds(void)
     struct required so_far = {0, UINT64_MAX};
     require_page_kinds_of(TAKE, &so_far);
     require_page_kinds_of(STORED, &so_far);
+    require_page_kinds_of(FOREIGN, &so_far);
     for (int kind = 0; kind < SLATE_KINDS; kind++)
         require(kinds[kind], LEAST, kind < NULL_TABLE ? "counts" : "takes", names[kind]);
     for (uint64_t fault = 0; fault < FAULTS; fault++)
@@ -174,5 +179,6 @@ void require_slate_kinds(void)
            LEAST);
     printf("%d outcomes at least %d times each in each of %d classes of pages\n", OUTCOMES, LEAST_OF_CLASS, CLASSES);
     printf("agreed: every count, and %lu takes: %lu taken, ", takes, answers[0]);
-    printf("refused %lu with 7, %lu with 4, %lu with 8, %lu with 12\n", answers[7], answers[4], answers[8], answers[12]);
+    printf("refused %lu with 7, %lu with 4, %lu with 8, ", answers[7], answers[4], answers[8]);
+    printf("%lu with 9, %lu with 12\n", answers[9], answers[12]);
 }

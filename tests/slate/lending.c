@@ -50,7 +50,7 @@ static uint8_t *lent_at(enum pointer pointer, uint64_t size, uint8_t *room)
 uint64_t compare_lending(const struct lending *lending)
 {
     uint8_t before[CELL_SIZE];
-    copy_claimed(lending->page, lending->record, before);
+    copy_named(lending->page, lending->record, before);
     const struct taking taking = {lending->table, lending->page, lending->record, before,
                                   take(lending->table, lending->page, lending->record)};
     struct table_room table = table_among_guards(lending->table);

@@ -65,6 +65,7 @@ enum slate_kind {
     EDGE_PART_OF_ROW,
     EDGE_PAGE_SHORT,
     EDGE_RECORD_SHORT,
+    EDGE_FOREIGN_ROW,
     SLATE_KINDS
 };
 enum { CLASSES = 9 };

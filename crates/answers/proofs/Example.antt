@@ -28,6 +28,7 @@ example =
       refusal-6 = refl;
       refusal-7 = refl;
       refusal-8 = refl;
+      refusal-9 = refl;
       refusal-11 = refl;
       refusal-11-at = refl;
       refusal-12 = refl;

@@ -3,7 +3,7 @@
 -- leaves a lent buffer as it was.
 use Prim.Native.Nat.{ℕ, suc, _<_}
 use mathlib.Core.Path.{_≡_, refl, sym, ap, ap₂, _∙_}
-use mathlib.Core.List.{List, [], _∷_, _++_}
+use mathlib.Core.List.{List, [], _∷_, _++_, List·Memᴰ, List·Memᴰ·cases-cons, List·Memᴰ·not-nil}
 use mathlib.Core.Bool.{Bool, true, false, _||_, false≢true}
 use mathlib.Core.Logic.{inl, inr, ⊎-elim}
 use native.Mathlib.Omega.{arith}
@@ -58,6 +58,15 @@ fails-then (c ∷ cs) ds = go (c .fails) (fails-then cs ds)
 pub passes-fails : (cs : List Check) → Passes cs → anyOf (failsOf cs) ≡ false
 passes-fails [] p = refl
 passes-fails (c ∷ cs) p = rw (p .0) (passes-fails cs (p .1))
+
+pub one-fails : (cs : List Check) (c : Check) → List·Memᴰ c cs → c .fails ≡ true → anyOf (failsOf cs) ≡ true
+one-fails [] c m e = absurd (List·Memᴰ·not-nil m)
+one-fails (d ∷ cs) c m e =
+    ⊎-elim (λ same. rw (← same, e) refl) (λ later. go (d .fails) (one-fails cs c later e)) (List·Memᴰ·cases-cons m)
+  where
+    go : (b : Bool) → anyOf (failsOf cs) ≡ true → b || anyOf (failsOf cs) ≡ true
+    go true rest = refl
+    go false rest = rest
 
 -- both of two lists of checks pass
 pub passes-apart : (cs ds : List Check) → Passes (cs ++ ds) → Passes cs × Passes ds

@@ -24,7 +24,7 @@ cellOf : List ℕ → Refusal
 cellOf [] = refusal.BadCell
 cellOf (place ∷ vs) = refusal.BadCellAt place
 
--- the refusals by number, with the values vs; no refusal has the numbers 0, 9 and 10
+-- the refusals by number, with the values vs; no refusal has the numbers 0 and 10
 byNumber : List ℕ → List Refusal
 byNumber vs =
     refusal.LengthOutside
@@ -36,7 +36,7 @@ byNumber vs =
     ∷ refusal.IndexPastEnd
     ∷ refusal.BadTable (getD vs 0 0)
     ∷ refusal.NoSuchPlace
-    ∷ refusal.LengthOutside
+    ∷ refusal.ForeignRow
     ∷ refusal.LengthOutside
     ∷ coefficientOf vs
     ∷ cellOf vs
@@ -68,6 +68,7 @@ said refusal.MagnitudeSum = says-back 4 [] refl refl (lit≤ tt)
 said refusal.IndexPastEnd = says-back 5 [] refl refl (lit≤ tt)
 said (refusal.BadTable row) = says-back 6 (row ∷ []) refl refl (lit≤ tt)
 said refusal.NoSuchPlace = says-back 7 [] refl refl (lit≤ tt)
+said refusal.ForeignRow = says-back 8 [] refl refl (lit≤ tt)
 said (refusal.UnusableCoefficient coordinate) = says-back 10 (coordinate ∷ []) refl refl (lit≤ tt)
 said (refusal.UnusableCoefficientAt place coordinate) = says-back 10 (place ∷ coordinate ∷ []) refl refl (lit≤ tt)
 said refusal.BadCell = says-back 11 [] refl refl (lit≤ tt)

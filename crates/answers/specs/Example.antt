@@ -44,6 +44,7 @@ pub record Example : Type 0 where
   pub refusal-6 : numberOf refusal.IndexPastEnd ≡ 6
   pub refusal-7 : meaning (refusal.BadTable 30) ≡ 7 ∷ 30 ∷ []
   pub refusal-8 : numberOf refusal.NoSuchPlace ≡ 8
+  pub refusal-9 : numberOf refusal.ForeignRow ≡ 9
   pub refusal-11 : meaning (refusal.UnusableCoefficient 15) ≡ 11 ∷ 15 ∷ []
   pub refusal-11-at : meaning (refusal.UnusableCoefficientAt 4095 15) ≡ 11 ∷ 4095 ∷ 15 ∷ []
   pub refusal-12 : meaning refusal.BadCell ≡ 12 ∷ []

@@ -20,11 +20,13 @@ pub enum Refusal {
     BadTable { row: usize },
     // 8: place not in the table
     NoSuchPlace,
+    // 9: row byte not the row of the record's place
+    ForeignRow,
     // 11: unusable coefficient, with the first coordinate at fault
     UnusableCoefficient { coordinate: usize },
     // 11 as send gives it, with the lowest place at fault, and its first coordinate at fault
     UnusableCoefficientAt { place: usize, coordinate: usize },
-    // 12: state byte above 2, or a held record with another place number, at the place that the call looks at
+    // 12: state byte above 2, or a held record of another place or row, at the place that the call looks at
     BadCell,
     // 12 as the tally gives it, with the lowest such place
     BadCellAt { place: usize },
@@ -54,6 +56,7 @@ pub fn in_numbers(refusal: Refusal) -> Numbers
         Refusal::IndexPastEnd => Numbers(6, 0, 0, 0),
         Refusal::BadTable { row } => Numbers(7, row, 0, 1),
         Refusal::NoSuchPlace => Numbers(8, 0, 0, 0),
+        Refusal::ForeignRow => Numbers(9, 0, 0, 0),
         Refusal::UnusableCoefficient { coordinate } => Numbers(11, coordinate, 0, 1),
         Refusal::UnusableCoefficientAt { place, coordinate } => Numbers(11, place, coordinate, 2),
         Refusal::BadCell => Numbers(12, 0, 0, 0),

@@ -3,10 +3,10 @@ use Prim.Native.Nat.{ℕ, _-_, _^_, _≤_, _<_}
 use mathlib.Core.List.{List}
 use mathlib.Core.Path.{_≡_, refl, _∙_}
 use native.Mathlib.Nat.{le-of-lt, lt-of-lt-of-le}
-use borrow.Author.Tests.{le-leb, lt-leb, lt-ltb, le-ltb, eq-eqb, ne-eqb}
+use borrow.Author.Tests.{le-leb, lt-leb, lt-ltb, le-ltb}
 use Rattle.counts.proofs.Widths.{width-is, width-enough, width-tight}
 use Rattle.counts.specs.Width.{width}
-use Rattle.records.specs.Record.{rowIn, radiusNumberIn, codewordIn}
+use Rattle.records.specs.Record.{radiusNumberIn, codewordIn}
 use Rattle.tables.specs.Row.{radiiOf, radiusAt}
 use Rattle.rules.proofs.Shows.{above-one, some-bits}
 use Rattle.rules.specs.Judging.{judgeCodeword, judgeIn, judgeRecord}
@@ -40,19 +40,14 @@ module _ (total k n : ℕ) where
     unfolding judgeCodeword
     codeword-mended = rw (lt-leb (2 ^ width total) n inside, le-ltb n total above) refl
 
-module _ (row : List ℕ) (r : ℕ) (y : List ℕ) where
-  pub record-9 : (rowIn y ≡ r → ⊥) → judged.Unreadable 9 ≡ judgeRecord row r y
+module _ (row y : List ℕ) where
+  pub record-10 : radiiOf row ≤ radiusNumberIn y → judged.Unreadable 10 ≡ judgeRecord row y
   unfolding judgeRecord
-  record-9 h = rw (ne-eqb (rowIn y) r h) refl
+  record-10 h = rw (le-leb (radiiOf row) (radiusNumberIn y) h) refl
 
-  module _ (here : rowIn y ≡ r) where
-    pub record-10 : radiiOf row ≤ radiusNumberIn y → judged.Unreadable 10 ≡ judgeRecord row r y
-    unfolding judgeRecord
-    record-10 h = rw (eq-eqb (rowIn y) r here, le-leb (radiiOf row) (radiusNumberIn y) h) refl
-
-    pub record-judged : radiusNumberIn y < radiiOf row → judgeIn row (radiusAt row (radiusNumberIn y)) (codewordIn y) ≡ judgeRecord row r y
-    unfolding judgeRecord
-    record-judged h = rw (eq-eqb (rowIn y) r here, lt-leb (radiiOf row) (radiusNumberIn y) h) refl
+  pub record-judged : radiusNumberIn y < radiiOf row → judgeIn row (radiusAt row (radiusNumberIn y)) (codewordIn y) ≡ judgeRecord row y
+  unfolding judgeRecord
+  record-judged h = rw (lt-leb (radiiOf row) (radiusNumberIn y) h) refl
 
 -- of an answer that is not sound nothing was found
 none-handed : (row : List ℕ) (j : Judged) (found : Found) → NotSound j → Nowhere found → Handed row j found

@@ -3,12 +3,13 @@ use Prim.Native.Nat.{ℕ, zero, suc, _≤_, _<_}
 use mathlib.Core.Bool.{or-false, true, false, not}
 use mathlib.Core.List.{List}
 use mathlib.Core.Path.{_≡_, refl, sym}
-use borrow.Author.Tests.{lt-ltb, le-ltb, ne-eqb}
+use lib.Dec.{eqb}
+use borrow.Author.Tests.{lt-ltb, le-ltb, eq-eqb, ne-eqb}
 use Rattle.answers.specs.Checks.{pick}
-use Rattle.records.specs.Record.{sameBytes}
+use Rattle.records.specs.Record.{placeIn, rowIn, sameBytes}
 use Rattle.layout.specs.Layout.{Cell}
 use Rattle.rules.specs.Judging.{judgeRecord, judge}
-use Rattle.rules.specs.Taking.{namesPlace, contestedCell, byState, badCell, takeCell}
+use Rattle.rules.specs.Taking.{contestedCell, byState, badCell, takeCell}
 use Rattle.rules.specs.declared.Judged.the-variants as judged
 
 -- a state that is neither 0 nor 1
@@ -17,32 +18,36 @@ by-state-else zero empty held contested a b = absurd (a refl)
 by-state-else (suc zero) empty held contested a b = absurd (b refl)
 by-state-else (suc (suc n)) empty held contested a b = refl
 
-module _ (p : ℕ) (c : Cell) where
-  pub bad-above : 2 < c .state → true ≡ badCell p c
+module _ (p r : ℕ) (c : Cell) where
+  pub bad-above : 2 < c .state → true ≡ badCell p r c
   unfolding badCell
   bad-above h = rw (lt-ltb 2 (c .state) h) refl
 
-  pub not-held : c .state ≤ 2 → (c .state ≡ 1 → ⊥) → false ≡ badCell p c
+  pub not-held : c .state ≤ 2 → (c .state ≡ 1 → ⊥) → false ≡ badCell p r c
   unfolding badCell
   not-held h e = rw (le-ltb 2 (c .state) h, ne-eqb (c .state) 1 e) refl
 
-  pub held-foreign : c .state ≡ 1 → not (namesPlace (c .bytes) p) ≡ badCell p c
+  pub held-elsewhere : c .state ≡ 1 → (placeIn (c .bytes) ≡ p → ⊥) → true ≡ badCell p r c
   unfolding badCell
-  held-foreign e = rw e (sym (or-false (not (namesPlace (c .bytes) p))))
+  held-elsewhere e other = rw (e, ne-eqb (placeIn (c .bytes)) p other) refl
+
+  pub held-here : c .state ≡ 1 → placeIn (c .bytes) ≡ p → not (eqb (rowIn (c .bytes)) r) ≡ badCell p r c
+  unfolding badCell
+  held-here e here = rw (e, eq-eqb (placeIn (c .bytes)) p here) (sym (or-false (not (eqb (rowIn (c .bytes)) r))))
 
 pub takes-else : (x : List ℕ) (c : Cell) → (c .state ≡ 0 → ⊥) → (c .state ≡ 1 → ⊥) → c ≡ takeCell x c
 unfolding takeCell
 takes-else x c a b = sym (by-state-else (c .state) _ (pick (sameBytes (c .bytes) x) c contestedCell) c a b)
 
-module _ (row : List ℕ) (r : ℕ) (c : Cell) where
-  pub judges-missing : c .state ≡ 0 → judged.Missing ≡ judge row r c
+module _ (row : List ℕ) (c : Cell) where
+  pub judges-missing : c .state ≡ 0 → judged.Missing ≡ judge row c
   unfolding judge
   judges-missing h = rw h refl
 
-  pub judges-held : c .state ≡ 1 → judgeRecord row r (c .bytes) ≡ judge row r c
+  pub judges-held : c .state ≡ 1 → judgeRecord row (c .bytes) ≡ judge row c
   unfolding judge
   judges-held h = rw h refl
 
-  pub judges-contested : (c .state ≡ 0 → ⊥) → (c .state ≡ 1 → ⊥) → judged.Contested ≡ judge row r c
+  pub judges-contested : (c .state ≡ 0 → ⊥) → (c .state ≡ 1 → ⊥) → judged.Contested ≡ judge row c
   unfolding judge
-  judges-contested a b = sym (by-state-else (c .state) judged.Missing (judgeRecord row r (c .bytes)) judged.Contested a b)
+  judges-contested a b = sym (by-state-else (c .state) judged.Missing (judgeRecord row (c .bytes)) judged.Contested a b)

@@ -30,7 +30,7 @@ NotSound judged.Missing = Unit {0}
 NotSound judged.Contested = Unit {0}
 NotSound (judged.Unreadable reason) = Unit {0}
 
--- the answer of the cell c in row number r, and what was found
-pub record Sees (row : List ℕ) (r : ℕ) (c : Cell) (seen : Seen) : Type 0 where
-  pub is-judged : seen .judged ≡ judge row r c
+-- the answer of the cell c in its row, and what was found
+pub record Sees (row : List ℕ) (c : Cell) (seen : Seen) : Type 0 where
+  pub is-judged : seen .judged ≡ judge row c
   pub handed : Handed row (seen .judged) (seen .found)

@@ -36,10 +36,10 @@ module _ (t : List ℕ) (good : Good t) (p : ℕ) (h : p < placesIn t) (number :
     named = row-lawful row .index-names (lengthFor t p) k q on;
   }
 
-  held-sound : (y : List ℕ) → Holds y p (rowOf t p) number codeword → judge row (rowOf t p) (heldCell y) ≡ judged.Sound k codeword
+  held-sound : (y : List ℕ) → Holds y p (rowOf t p) number codeword → judge row (heldCell y) ≡ judged.Sound k codeword
   unfolding judge
   held-sound y holds =
-      sym (record-judged row (rowOf t p) y (holds .holds-row) (rw (holds .holds-radius-number) in-row))
+      sym (record-judged row y (rw (holds .holds-radius-number) in-row))
       ∙ ap₂ (λ (n c : ℕ). judgeIn row (radiusAt row n) c) (holds .holds-radius-number) (holds .holds-codeword)
       ∙ sym (codeword-sound (shellTotal row k) k codeword (codeword-names .below))
 
@@ -47,6 +47,6 @@ module _ (t : List ℕ) (good : Good t) (p : ℕ) (h : p < placesIn t) (number :
   arrived-sound y holds xs all =
       let back = row-lawful row .point-of-index (lengthFor t p) k q on in
       record {
-        reads = grown-reads t good xs p h (judged.Sound k codeword) q (ap (judge row (rowOf t p)) (equal-cell t good xs p h y all) ∙ held-sound y holds) back;
+        reads = grown-reads t good xs p h (judged.Sound k codeword) q (ap (judge row) (equal-cell t good xs p h y all) ∙ held-sound y holds) back;
         exact = λ bytes i. rw back at (exact-shown t p (judged.Sound k codeword) codeword-names bytes i);
       }

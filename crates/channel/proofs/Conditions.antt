@@ -8,7 +8,7 @@ use lib.Ieee.{Float}
 use lib.ListN.{length}
 use Rattle.answers.specs.Checks.{numberSaid, Check, lengthCheck, pick, firstOf, eachFrom}
 use Rattle.answers.proofs.OneNumber.{OfNumber, each-of, one-number, one-number-last}
-use Rattle.tables.specs.Table.{placesIn, tableChecks, placeCheck, placeChecks, rowFor, lengthFor}
+use Rattle.tables.specs.Table.{placesIn, tableChecks, placeCheck, placeChecks, rowOf, rowFor, lengthFor}
 use Rattle.tables.proofs.Seven.{table-of-7}
 use Rattle.records.specs.Record.{recordCheck, placeIn}
 use Rattle.coefficients.specs.Coefficients.{usableCheck, usableChecks}
@@ -17,7 +17,7 @@ use Rattle.runs.specs.Run.{coordinatesIn}
 use Rattle.runs.specs.Sending.{runChecks, recordsLength, sendChecks}
 use Rattle.runs.proofs.Judging.{run-of-11}
 use Rattle.layout.specs.Layout.{cellAt}
-use Rattle.rules.specs.Taking.{pageCheck, cellCheck, cellCheckAt, pageChecks, lookChecks, takeRest, takeChecks}
+use Rattle.rules.specs.Taking.{pageCheck, foreignCheck, cellCheck, ownCellCheck, cellCheckAt, pageChecks, lookChecks, takeRest, takeChecks}
 use Rattle.rules.specs.Reading.{readRest, readChecks, coefficientRest, coefficientChecks}
 use Rattle.rules.specs.Tallying.{tallyRest, tallyChecks}
 use Rattle.report.specs.Calls.{noRoom, linesFit, linesRest, linesChecks}
@@ -83,25 +83,25 @@ module _ (t : List ℕ) where
   take-alike pg x =
       by-table t (paged pg (takeRest t pg x))
       (grouped 4 (pageCheck t pg ∷ recordCheck (length x) ∷ []) (refl, (refl, tt))
-      (alike (placeCheck t (placeIn x) ∷ cellCheck (placeIn x) (cellAt pg (placeIn x)) ∷ [])))
+      (alike (placeCheck t (placeIn x) ∷ foreignCheck t x ∷ ownCellCheck t pg x ∷ [])))
 
   pub read-alike : (pg : List ℕ) (p b : ℕ) → Alike (readChecks t pg p b) (withTable t (readConditions t pg p b))
   read-alike pg p b =
-      by-table t (looked pg p (readRest (rowFor t p) pg p b))
+      by-table t (looked pg p (readRest (rowFor t p) (rowOf t p) pg p b))
       (behind (placeCheck t p)
-      (grouped 4 (pageCheck t pg ∷ lengthCheck b (lengthFor t p) ∷ []) (refl, (refl, tt)) (alike (cellCheck p (cellAt pg p) ∷ []))))
+      (grouped 4 (pageCheck t pg ∷ lengthCheck b (lengthFor t p) ∷ []) (refl, (refl, tt)) (alike (cellCheck p (rowOf t p) (cellAt pg p) ∷ []))))
 
   pub coefficient-alike : (pg : List ℕ) (p i : ℕ) → Alike (coefficientChecks t pg p i) (withTable t (coefficientConditions t pg p i))
-  coefficient-alike pg p i = by-table t (looked pg p (coefficientRest (rowFor t p) pg p i)) (alike (coefficientConditions t pg p i))
+  coefficient-alike pg p i = by-table t (looked pg p (coefficientRest (rowFor t p) (rowOf t p) pg p i)) (alike (coefficientConditions t pg p i))
 
   pub tally-alike : (pg : List ℕ) → Alike (tallyChecks t pg) (withTable t (tallyConditions t pg))
   tally-alike pg =
       by-table t (paged pg (tallyRest t pg))
-      (behind (pageCheck t pg) (grouped-last 12 (tallyRest t pg) (each-of (cellCheckAt pg) 12 0 (placesIn t) (λ j. refl))))
+      (behind (pageCheck t pg) (grouped-last 12 (tallyRest t pg) (each-of (cellCheckAt t pg) 12 0 (placesIn t) (λ j. refl))))
 
   pub lines-alike : (pg : List ℕ) (p b : ℕ) → Alike (linesChecks t pg p b) (withTable t (linesConditions t pg p b))
   lines-alike pg p b =
       by-table t (looked pg p (linesRest t pg p b))
       (behind (placeCheck t p)
       (grouped 4 (pageCheck t pg ∷ noRoom b ∷ []) (refl, (refl, tt))
-      (grouped-last 12 (eachFrom (cellCheckAt pg) p (linesFit t p b)) (each-of (cellCheckAt pg) 12 p (linesFit t p b) (λ j. refl)))))
+      (grouped-last 12 (eachFrom (cellCheckAt t pg) p (linesFit t p b)) (each-of (cellCheckAt t pg) 12 p (linesFit t p b) (λ j. refl)))))

@@ -5,6 +5,7 @@ pub mod AnyOrder
 pub mod Reading
 pub mod ThreeCases
 pub mod Never12
+pub mod ForeignRows
 pub mod Values
 pub mod Accepted
 pub mod Arrived

@@ -12,8 +12,7 @@ use Rattle.answers.proofs.InOrder.{none-of, passes-fails}
 use Rattle.answers.proofs.Each.{passes-each}
 use Rattle.tables.specs.Table.{placesIn, tableChecks, noSuchPlace, Good}
 use Rattle.records.specs.Record.{placeIn}
-use Rattle.layout.specs.Layout.{cellAt}
-use Rattle.rules.specs.Taking.{badCell, cellCheckAt, grown}
+use Rattle.rules.specs.Taking.{badAt, cellCheckAt, grown}
 use Rattle.rules.proofs.Grown.{grown-not-bad}
 use Rattle.channel.specs.Demand3.{Never12}
 use Rattle.channel.proofs.Calls.{demand-1}
@@ -26,15 +25,15 @@ last : {X Y Z W : Type 0} → (X × Z × W) ⊎ (Y × ⊥) → X
 last r = ⊎-elim (λ h. h .0) (λ h. absurd (h .1)) r
 
 module _ (t : List ℕ) (xs : List (List ℕ)) where
-  no-fault : anyOf (failsOf (tableChecks t)) ≡ false → (p : ℕ) → noSuchPlace t p ≡ false → badCell p (cellAt (grown t xs) p) ≡ true → ⊥
+  no-fault : anyOf (failsOf (tableChecks t)) ≡ false → (p : ℕ) → noSuchPlace t p ≡ false → badAt t (grown t xs) p ≡ true → ⊥
   no-fault table p place bad =
       false≢true (sym (grown-not-bad t (none-of (failsOf (tableChecks t)) table) xs p (leb-false (placesIn t) p place)) ∙ bad)
 
-  no-faults : anyOf (failsOf (tableChecks t)) ≡ false → anyOf (failsOf (eachFrom (cellCheckAt (grown t xs)) 0 (placesIn t))) ≡ true → ⊥
+  no-faults : anyOf (failsOf (tableChecks t)) ≡ false → anyOf (failsOf (eachFrom (cellCheckAt t (grown t xs)) 0 (placesIn t))) ≡ true → ⊥
   no-faults table bad =
       let good : Good t = none-of (failsOf (tableChecks t)) table in
-      let cells = eachFrom (cellCheckAt (grown t xs)) 0 (placesIn t) in
-      false≢true (sym (passes-fails cells (passes-each (cellCheckAt (grown t xs)) 0 (placesIn t) (λ p from to. grown-not-bad t good xs p (omega arith)))) ∙ bad)
+      let cells = eachFrom (cellCheckAt t (grown t xs)) 0 (placesIn t) in
+      false≢true (sym (passes-fails cells (passes-each (cellCheckAt t (grown t xs)) 0 (placesIn t) (λ p from to. grown-not-bad t good xs p (omega arith)))) ∙ bad)
 
   pub never-12 : Never12 t xs
   never-12 = record {
@@ -42,7 +41,8 @@ module _ (t : List ℕ) (xs : List (List ℕ)) where
         let table = past (λ f. omega (arith, f)) (demand-1 .take t (grown t xs) x .exactly 11 .0 said) in
         let size = past (λ f. omega (arith, f)) (table .1) in
         let place = past (λ f. omega (arith, f)) (size .1) in
-        no-fault (table .0) (placeIn x) (place .0) (last (place .1));
+        let row = past (λ f. omega (arith, f)) (place .1) in
+        no-fault (table .0) (placeIn x) (place .0) (last (row .1));
     read = λ p out said.
         let table = past (λ f. omega (arith, f)) (demand-1 .read t (grown t xs) p out .exactly 11 .0 said) in
         let place = past (λ f. omega (arith, f)) (table .1) in

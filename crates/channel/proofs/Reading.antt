@@ -10,10 +10,9 @@ use borrow.Author.Tests.{lt-leb, eq-eqb}
 use Rattle.answers.specs.Checks.{Passes}
 use Rattle.answers.proofs.InOrder.{passes-then, passes-says, passes-leaves}
 use Rattle.floats.specs.Exact.{over256}
-use Rattle.tables.specs.Table.{placesIn, Good, rowFor, lengthFor}
+use Rattle.tables.specs.Table.{placesIn, Good, rowOf, rowFor, lengthFor}
 use Rattle.tables.proofs.PlaceChecks.{passes-place}
-use Rattle.layout.specs.Layout.{cellAt}
-use Rattle.rules.specs.Taking.{badCell, lookChecks, grown}
+use Rattle.rules.specs.Taking.{badAt, lookChecks, grown}
 use Rattle.rules.specs.Judging.{judgeAt, answerNumber, reasonOf, shown}
 use Rattle.rules.specs.Reading.{told, carried, carriedBy, pointAt, readRest, readChecks, coefficientRest, coefficientChecks}
 use Rattle.rules.specs.declared.Judged.{Judged}
@@ -21,15 +20,15 @@ use Rattle.rules.proofs.Grown.{grown-ready, grown-not-bad}
 use Rattle.rules.proofs.Pages.{page-size, look-passes}
 use Rattle.channel.specs.Demand3.{Reads, scaled}
 
-module _ (t pg : List ℕ) (p : ℕ) (look : Passes (lookChecks t pg p)) (whole : badCell p (cellAt pg p) ≡ false) where
+module _ (t pg : List ℕ) (p : ℕ) (look : Passes (lookChecks t pg p)) (whole : badAt t pg p ≡ false) where
   read-passes : (out : List ℤ) → length out ≡ lengthFor t p → Passes (readChecks t pg p (length out))
   read-passes out long =
-      passes-then (lookChecks t pg p) (readRest (rowFor t p) pg p (length out)) look
+      passes-then (lookChecks t pg p) (readRest (rowFor t p) (rowOf t p) pg p (length out)) look
       (rw (eq-eqb (length out) (lengthFor t p) long) refl, (whole, tt))
 
   coefficient-passes : (i : ℕ) → i < lengthFor t p → Passes (coefficientChecks t pg p i)
   coefficient-passes i inside =
-      passes-then (lookChecks t pg p) (coefficientRest (rowFor t p) pg p i) look (lt-leb (lengthFor t p) i inside, (whole, tt))
+      passes-then (lookChecks t pg p) (coefficientRest (rowFor t p) (rowOf t p) pg p i) look (lt-leb (lengthFor t p) i inside, (whole, tt))
 
   reads-as : (j : Judged) (q : List ℤ) → judgeAt t pg p ≡ j → shown (rowFor t p) j ≡ q
       → Reads t pg p (answerNumber j) (reasonOf j) q (λ i. carried j (over256 (scaled t p q i)))

@@ -10,8 +10,8 @@ use lib.ListN.{length, getD, replicate, length-replicate}
 use Rattle.answers.proofs.InOrder.{passes-fails}
 use Rattle.buffers.specs.Joined.{joined}
 use Rattle.buffers.proofs.Joining.{joined-equal}
-use Rattle.tables.specs.Table.{placesIn, tableChecks, Good, rowFor, lengthFor}
-use Rattle.records.specs.Record.{placeIn}
+use Rattle.tables.specs.Table.{placesIn, tableChecks, Good, rowOf, rowFor, lengthFor}
+use Rattle.records.specs.Record.{placeIn, rowIn}
 use Rattle.quantizer.proofs.Written.{record-written}
 use Rattle.runs.proofs.Records.{record-eight}
 use Rattle.runs.specs.Run.{vectorFor}
@@ -52,9 +52,11 @@ sound-told t good xs p h q sound =
 
 -- ---- the records of a run that send accepts
 module _ (t : List ℕ) (run : List Float) (held : List ℕ) (a : AcceptedRun t run held) where
-  -- each names its place
-  names-place : (p : ℕ) → p < placesIn t → placeIn (recordAt t run p) ≡ p
-  names-place p h = record-written t p (vectorFor t run p) (a .good) h (a .long p h) .holds-place
+  -- each names its place and its row
+  names-both : (p : ℕ) → p < placesIn t → (placeIn (recordAt t run p) ≡ p) × (rowIn (recordAt t run p) ≡ rowOf t p)
+  names-both p h =
+      let written = record-written t p (vectorFor t run p) (a .good) h (a .long p h) in
+      (written .holds-place, written .holds-row)
 
   -- what arrives
   module _ (xs : List (List ℕ)) (arrived : AllArrived (sendLeaves t run held) xs) where
@@ -64,14 +66,19 @@ module _ (t : List ℕ) (run : List Float) (held : List ℕ) (a : AcceptedRun t 
         let sent : List·Memᴰ x (partsOf (sendLeaves t run held)) = arrived .only x m in
         let part = part-is (recordAt t run) (record-eight t run) 0 (placesIn t) x (rw (a .leaves) at sent) in
         let is : x ≡ recordAt t run (part .0) = part .2 ∙ ap (recordAt t run) (zero-add (part .0)) in
-        let names : placeIn x ≡ part .0 = ap placeIn is ∙ names-place (part .0) (part .1) in
+        let names : placeIn x ≡ part .0 = ap placeIn is ∙ names-both (part .0) (part .1) .0 in
         (rw names (part .1), is ∙ ap (recordAt t run) (sym names))
 
     -- and claims it
     each-claims : (x : List ℕ) → List·Memᴰ x xs → Claims t x (placeIn x)
     each-claims x m =
         let from = came-from x m in
-        record { eight = ap length (from .1) ∙ record-eight t run (placeIn x); named = refl; inside = from .0 }
+        record {
+          eight = ap length (from .1) ∙ record-eight t run (placeIn x);
+          named = refl;
+          of-row = ap rowIn (from .1) ∙ names-both (placeIn x) (from .0) .1;
+          inside = from .0;
+        }
 
     -- the record of each place is among it, and nothing else for that place
     module _ (p : ℕ) (h : p < placesIn t) where

@@ -32,7 +32,7 @@ all-of : (t : List ℕ) (p number codeword : ℕ) → p < placesIn t → Holds (
 unfolding recordOf
 all-of t p number codeword inside holds xs among equal = record {
   among = among;
-  claiming = is-claim t (recordOf p (rowOf t p) number codeword) p (record { eight = refl; named = holds .holds-place; inside = inside });
+  claiming = is-claim t (recordOf p (rowOf t p) number codeword) p (record { eight = refl; named = holds .holds-place; of-row = holds .holds-row; inside = inside });
   equal = equal;
 }
 

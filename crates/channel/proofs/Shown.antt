@@ -23,16 +23,16 @@ module _ (t : List ℕ) (xs : List (List ℕ)) (p : ℕ) where
   only-equal : Good t → p < placesIn t → answerNumber (judgeAt t (grown t xs) p) < 2 → WhatCame t xs p → OnlySent t xs p
   unfolding judge
   only-equal good h shows (inl none) =
-      absurd (omega (arith, ap (λ (c : Cell). answerNumber (judge (rowFor t p) (rowOf t p) c)) (nobody-cell t good xs p h none)))
+      absurd (omega (arith, ap (λ (c : Cell). answerNumber (judge (rowFor t p) c)) (nobody-cell t good xs p h none)))
   only-equal good h shows (inr (inl (y, all))) =
-      let j = judge (rowFor t p) (rowOf t p) (heldCell y) in
+      let j = judge (rowFor t p) (heldCell y) in
       record {
         arrived = y;
         all-equal = all;
-        its-point = grown-reads t good xs p h j (shown (rowFor t p) j) (ap (judge (rowFor t p) (rowOf t p)) (equal-cell t good xs p h y all)) refl .read-leaves;
+        its-point = grown-reads t good xs p h j (shown (rowFor t p) j) (ap (judge (rowFor t p)) (equal-cell t good xs p h y all)) refl .read-leaves;
       }
   only-equal good h shows (inr (inr two)) =
-      absurd (omega (arith, ap (λ (c : Cell). answerNumber (judge (rowFor t p) (rowOf t p) c)) (differ-cell t good xs p h two)))
+      absurd (omega (arith, ap (λ (c : Cell). answerNumber (judge (rowFor t p) c)) (differ-cell t good xs p h two)))
 
   -- either reader looks at the place first; where it shows a point all its checks pass, and sound and mended are
   -- the first two answers
@@ -52,7 +52,7 @@ module _ (t : List ℕ) (xs : List (List ℕ)) (p : ℕ) where
       only-equal (place .0) (place .1) first-two (which-came t p xs)
 
 pub read-only-sent : ReadOnlySent
-read-only-sent t xs p out shows = by-reader t xs p (readRest (rowFor t p) (grown t xs) p (length out)) (lit< tt, (lit< tt, tt)) shows
+read-only-sent t xs p out shows = by-reader t xs p (readRest (rowFor t p) (rowOf t p) (grown t xs) p (length out)) (lit< tt, (lit< tt, tt)) shows
 
 pub valued-only-sent : ValuedOnlySent
-valued-only-sent t xs p i shows = by-reader t xs p (coefficientRest (rowFor t p) (grown t xs) p i) (lit< tt, (lit< tt, tt)) shows
+valued-only-sent t xs p i shows = by-reader t xs p (coefficientRest (rowFor t p) (rowOf t p) (grown t xs) p i) (lit< tt, (lit< tt, tt)) shows

@@ -7,7 +7,7 @@ use mathlib.Core.Bool.{Bool, true, false, false≢true}
 use mathlib.Core.Logic.{inl, inr, ⊎-elim}
 use lib.IntN.{pos}
 use lib.ListN.{replicate}
-use Rattle.tables.specs.Table.{placesIn, Good, rowOf, rowFor, lengthFor}
+use Rattle.tables.specs.Table.{placesIn, Good, rowFor, lengthFor}
 use Rattle.records.specs.Record.{sameBytes}
 use Rattle.records.proofs.Same.{bytes-same, differ-bytes}
 use Rattle.layout.specs.Layout.{Cell, cellAt, emptyCell}
@@ -128,7 +128,7 @@ module _ (t : List ℕ) (good : Good t) (xs : List (List ℕ)) (p : ℕ) (h : p 
     all-equal = equal-cell;
     two-differ = differ-cell;
     missing = λ none.
-        grown-reads t good xs p h judged.Missing (replicate (lengthFor t p) (pos 0)) (ap (judge (rowFor t p) (rowOf t p)) (nobody-cell none)) refl;
+        grown-reads t good xs p h judged.Missing (replicate (lengthFor t p) (pos 0)) (ap (judge (rowFor t p)) (nobody-cell none)) refl;
     contested = λ d.
-        grown-reads t good xs p h judged.Contested (replicate (lengthFor t p) (pos 0)) (ap (judge (rowFor t p) (rowOf t p)) (differ-cell d)) refl;
+        grown-reads t good xs p h judged.Contested (replicate (lengthFor t p) (pos 0)) (ap (judge (rowFor t p)) (differ-cell d)) refl;
   }

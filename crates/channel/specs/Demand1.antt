@@ -14,7 +14,7 @@ use Rattle.counts.specs.Counts.{N}
 use Rattle.tables.specs.Usable.{shellChecks}
 use Rattle.shell.specs.Shell.{countMeaning, countSays}
 use Rattle.points.specs.Calls.{indexChecks, indexMeaning, indexSays, pointChecks, pointMeaning, pointSays, pointLeaves}
-use Rattle.tables.specs.Table.{placesIn, tableChecks, checkSays, placeCheck, rowFor, lengthFor}
+use Rattle.tables.specs.Table.{placesIn, tableChecks, checkSays, placeCheck, rowOf, rowFor, lengthFor}
 use Rattle.pairing.specs.Meanings.{checkMeaning}
 use Rattle.records.specs.Record.{recordCheck, placeIn}
 use Rattle.coefficients.specs.Coefficients.{usableChecks}
@@ -23,7 +23,7 @@ use Rattle.runs.specs.Run.{coordinatesIn}
 use Rattle.runs.specs.Sending.{runChecks, recordsLength, sendChecks, sendSays, sendLeaves}
 use Rattle.sending.specs.Meanings.{sendMeaning}
 use Rattle.layout.specs.Layout.{cellAt}
-use Rattle.rules.specs.Taking.{pageCheck, cellCheck, cellCheckAt, takeChecks, takeSays, takeLeaves}
+use Rattle.rules.specs.Taking.{pageCheck, foreignCheck, cellCheck, ownCellCheck, cellCheckAt, takeChecks, takeSays, takeLeaves}
 use Rattle.rules.specs.Reading.{readChecks, readSays, readLeaves, coordinateCheck, coefficientChecks, coefficientSays, coefficientCarries}
 use Rattle.rules.specs.Tallying.{tallyChecks, tallySays}
 use Rattle.page.specs.Meanings.{takeMeaning, readMeaning, coefficientMeaning, coefficientValues, tallyMeaning}
@@ -60,27 +60,33 @@ abbrev pub takeConditions : List ℕ → List ℕ → List ℕ → List Check
 takeConditions t pg x =
     condition 4 (pageCheck t pg ∷ recordCheck (length x) ∷ [])
     ∷ placeCheck t (placeIn x)
-    ∷ cellCheck (placeIn x) (cellAt pg (placeIn x))
+    ∷ foreignCheck t x
+    ∷ ownCellCheck t pg x
     ∷ []
 
 abbrev pub readConditions : List ℕ → List ℕ → ℕ → ℕ → List Check
 readConditions t pg p b =
     placeCheck t p
     ∷ condition 4 (pageCheck t pg ∷ lengthCheck b (lengthFor t p) ∷ [])
-    ∷ cellCheck p (cellAt pg p)
+    ∷ cellCheck p (rowOf t p) (cellAt pg p)
     ∷ []
 
 abbrev pub coefficientConditions : List ℕ → List ℕ → ℕ → ℕ → List Check
-coefficientConditions t pg p i = placeCheck t p ∷ pageCheck t pg ∷ coordinateCheck (rowFor t p) i ∷ cellCheck p (cellAt pg p) ∷ []
+coefficientConditions t pg p i =
+    placeCheck t p
+    ∷ pageCheck t pg
+    ∷ coordinateCheck (rowFor t p) i
+    ∷ cellCheck p (rowOf t p) (cellAt pg p)
+    ∷ []
 
 abbrev pub tallyConditions : List ℕ → List ℕ → List Check
-tallyConditions t pg = pageCheck t pg ∷ condition 12 (eachFrom (cellCheckAt pg) 0 (placesIn t)) ∷ []
+tallyConditions t pg = pageCheck t pg ∷ condition 12 (eachFrom (cellCheckAt t pg) 0 (placesIn t)) ∷ []
 
 abbrev pub linesConditions : List ℕ → List ℕ → ℕ → ℕ → List Check
 linesConditions t pg p b =
     placeCheck t p
     ∷ condition 4 (pageCheck t pg ∷ noRoom b ∷ [])
-    ∷ condition 12 (eachFrom (cellCheckAt pg) p (linesFit t p b))
+    ∷ condition 12 (eachFrom (cellCheckAt t pg) p (linesFit t p b))
     ∷ []
 
 -- A call's refusals: `order` is the call's line in docs/RULES.md, "Order of checks", `conditions` says when each
@@ -131,8 +137,8 @@ pub record Demand1 : Type 0 where
       → Refusing (7 ∷ 4 ∷ 11 ∷ []) (withTable t (sendConditions t run (length out))) (sendChecks t run (length out)) (sendSays t run out)
   pub send-unchanged : (t : List ℕ) (run : List Float) (out : List ℕ) → Unchanged (sendSays t run out) (sendLeaves t run out) out
   pub send-determined : (t : List ℕ) (run : List Float) (out : List ℕ) → Determined sendMeaning (sendSays t run out)
-  -- Take: 7, 4, 8, 12
-  pub take : (t pg x : List ℕ) → Refusing (7 ∷ 4 ∷ 8 ∷ 12 ∷ []) (withTable t (takeConditions t pg x)) (takeChecks t pg x) (takeSays t pg x)
+  -- Take: 7, 4, 8, 9, 12
+  pub take : (t pg x : List ℕ) → Refusing (7 ∷ 4 ∷ 8 ∷ 9 ∷ 12 ∷ []) (withTable t (takeConditions t pg x)) (takeChecks t pg x) (takeSays t pg x)
   pub take-unchanged : (t pg x : List ℕ) → Unchanged (takeSays t pg x) (takeLeaves t pg x) pg
   pub take-determined : (t pg x : List ℕ) → Determined takeMeaning (takeSays t pg x)
   -- Read a place: 7, 8, 4, 12

@@ -16,7 +16,7 @@ use Rattle.enumeration.specs.Product.{productIndex}
 use Rattle.enumeration.specs.Signs.{flipped}
 use Rattle.floats.specs.Exact.{over256, IsOver256}
 use Rattle.tables.specs.Row.{stepOf}
-use Rattle.tables.specs.Table.{placesIn, Good, rowOf, rowFor, lengthFor}
+use Rattle.tables.specs.Table.{placesIn, Good, rowFor, lengthFor}
 use Rattle.octets.specs.Octets.{highFirst}
 use Rattle.coding.specs.Coded.{pointFor}
 use Rattle.quantizer.specs.Calls.{quantizeSays, quantizeLeaves}
@@ -133,7 +133,7 @@ pub record OnlySent (t : List ℕ) (xs : List (List ℕ)) (p : ℕ) : Type 0 whe
   pub arrived : List ℕ
   pub all-equal : OnlyCame t xs p arrived
   pub its-point : (out : List ℤ) → length out ≡ lengthFor t p
-      → readLeaves t (grown t xs) p out ≡ shown (rowFor t p) (judge (rowFor t p) (rowOf t p) (record { state = 1; bytes = arrived }))
+      → readLeaves t (grown t xs) p out ≡ shown (rowFor t p) (judge (rowFor t p) (record { state = 1; bytes = arrived }))
 
 abbrev pub ReadOnlySent : Type 0
 ReadOnlySent = (t : List ℕ) (xs : List (List ℕ)) (p : ℕ) (out : List ℤ) → ShowsPoint (readSays t (grown t xs) p out) → OnlySent t xs p

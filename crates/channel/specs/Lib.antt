@@ -3,3 +3,4 @@ pub mod Demand3
 pub mod Demand2
 pub mod Sending
 pub mod Witness
+pub mod ForeignRows

@@ -22,7 +22,7 @@ module _ (t pg : List ℕ) (ready : Passes (pageChecks t pg)) (x : List ℕ) whe
   leaves-all did = did ∙ passed-leaves (pageChecks t pg) (takeRest t pg x) (takeInto pg x) pg ready
 
   numbered : Numbered (takeRest t pg x)
-  numbered = (lit< tt, (lit< tt, (lit< tt, tt)))
+  numbered = (lit< tt, (lit< tt, (lit< tt, (lit< tt, tt))))
 
   fails-by : {b : Bool} → anyOf (failsOf (takeRest t pg x)) ≡ b → anyOf (failsOf (takeChecks t pg x)) ≡ b
   fails-by e = fails-then (pageChecks t pg) (takeRest t pg x) ∙ rw (passes-fails (pageChecks t pg) ready) e

@@ -11,11 +11,11 @@ use Rattle.rules.specs.Taking.{pageChecks}
 use Rattle.tables.specs.Table.{surveySays}
 use Rattle.page.specs.Bounds.{Ready}
 
--- a table and a page
-module _ (t pg : List ℕ) {survey : Surveyed} {places row : ℕ} (says : surveyMeaning survey ≡ surveySays (pageChecks t pg) t 0)
+-- a table, a page and a place
+module _ (t pg : List ℕ) (p : ℕ) {survey : Surveyed} {places row : ℕ} (says : surveyMeaning survey ≡ surveySays (pageChecks t pg) t p)
     (told : survey ≡ surveyed.Good places row) where
-  pub page-found : Surveys (pageChecks t pg) t 0 places row
-  page-found = survey-good (pageChecks t pg) t 0 says (page-numbered t pg) told
+  pub page-found : Surveys (pageChecks t pg) t p places row
+  page-found = survey-good (pageChecks t pg) t p says (page-numbered t pg) told
 
   pub page-ready : Ready t pg places
   page-ready = record { passes = page-found .passes; is-places = page-found .is-places }

@@ -17,7 +17,7 @@ use Rattle.tables.specs.Way.{Placed, Walked, AtRow}
 use Rattle.layout.specs.Bounds.{InPage}
 use Rattle.layout.specs.Layout.{cellAt}
 use Rattle.rules.proofs.Counts.{five-answers, counts-next, counts-to}
-use Rattle.rules.proofs.Pages.{page-good, page-size}
+use Rattle.rules.proofs.Pages.{page-good, page-size, bad-on-way}
 use Rattle.rules.specs.Judging.{judge, judgeAt, answerNumber}
 use Rattle.rules.specs.Taking.{badCell, cellCheckAt}
 use Rattle.rules.specs.Tallying.{countOf, countsOf, answerAt, tallyOf, tallyRest}
@@ -30,7 +30,7 @@ pub record Tallying (t pg : List ℕ) (row end n : ℕ) (counts : List ℕ) : Ty
   pub to : n ≤ placesIn t
   pub on : Walked t row end n
   pub counted : counts ≡ countsOf (answerAt t pg) n
-  pub left : firstOf (eachFrom (cellCheckAt pg) n (placesIn t - n)) (0 ∷ tallyOf t pg) ≡ firstOf (tallyRest t pg) (0 ∷ tallyOf t pg)
+  pub left : firstOf (eachFrom (cellCheckAt t pg) n (placesIn t - n)) (0 ∷ tallyOf t pg) ≡ firstOf (tallyRest t pg) (0 ∷ tallyOf t pg)
 
 module _ {t pg : List ℕ} {places : ℕ} (ready : Ready t pg places) where
   -- the way begins at place 0
@@ -46,7 +46,7 @@ module _ {t pg : List ℕ} {places : ℕ} (ready : Ready t pg places) where
     pub ends : places ≤ n → 0 ∷ getD counts 0 0 ∷ getD counts 1 0 ∷ getD counts 2 0 ∷ getD counts 3 0 ∷ getD counts 4 0 ∷ [] ≡ firstOf (tallyRest t pg) (0 ∷ tallyOf t pg)
     ends past =
         let all : n ≡ placesIn t = omega (arith, ready .is-places, so-far .to) in
-        rw (so-far .counted, all) refl ∙ sym (none-left (cellCheckAt pg) (0 ∷ tallyOf t pg) n (placesIn t) (omega arith)) ∙ so-far .left
+        rw (so-far .counted, all) refl ∙ sym (none-left (cellCheckAt t pg) (0 ∷ tallyOf t pg) n (placesIn t) (omega arith)) ∙ so-far .left
 
     module _ (h : n < places) where
       pub inside : n < placesIn t
@@ -62,24 +62,25 @@ module _ {t pg : List ℕ} {places : ℕ} (ready : Ready t pg places) where
       pub its-cell : InPage pg places n
       its-cell = in-page t (page-good t pg (ready .passes)) (page-size t pg (ready .passes)) (ready .is-places) inside
 
-      pub tally-12 : badCell n (cellAt pg n) ≡ true → 12 ∷ n ∷ [] ≡ firstOf (tallyRest t pg) (0 ∷ tallyOf t pg)
-      tally-12 bad = sym (each-refused (cellCheckAt pg) (0 ∷ tallyOf t pg) n (placesIn t) inside bad) ∙ so-far .left
+      module _ {row′ end′ : ℕ} (at-row : AtRow t row′ end′ n) where
+        pub tally-12 : badCell n row′ (cellAt pg n) ≡ true → 12 ∷ n ∷ [] ≡ firstOf (tallyRest t pg) (0 ∷ tallyOf t pg)
+        tally-12 bad = sym (each-refused (cellCheckAt t pg) (0 ∷ tallyOf t pg) n (placesIn t) inside (bad-on-way at-row inside pg bad)) ∙ so-far .left
 
-      module _ {row′ end′ : ℕ} (at-row : AtRow t row′ end′ n) (fine : badCell n (cellAt pg n) ≡ false) {j : Judged}
-          (judged : j ≡ judge (rowAt t row′) row′ (cellAt pg n)) {a : ℕ} (is-number : a ≡ answerNumber j) where
-        answer-is : answerAt t pg n ≡ a
-        answer-is =
-            let same : j ≡ judgeAt t pg n = judged ∙ ap (λ (r : ℕ). judge (rowAt t r) r (cellAt pg n)) (its-row at-row inside) in
-            sym (is-number ∙ ap answerNumber same)
+        module _ (fine : badCell n row′ (cellAt pg n) ≡ false) {j : Judged} (judged : j ≡ judge (rowAt t row′) (cellAt pg n)) {a : ℕ}
+            (is-number : a ≡ answerNumber j) where
+          answer-is : answerAt t pg n ≡ a
+          answer-is =
+              let same : j ≡ judgeAt t pg n = judged ∙ ap (λ (r : ℕ). judge (rowAt t r) (cellAt pg n)) (its-row at-row inside) in
+              sym (is-number ∙ ap answerNumber same)
 
-        pub counts-on : Tallying t pg row′ end′ (n + 1) (set counts a (getD counts a 0 + 1))
-        counts-on = record {
-          to = omega (arith, inside);
-          on = walks-on at-row;
-          counted =
-              rw (add-one n, add-one (getD counts a 0), so-far .counted)
-              (counts-next (answerAt t pg) n a answer-is (rw is-number (five-answers j)));
-          left =
-              rw (add-one n)
-              (sym (each-passed (cellCheckAt pg) (0 ∷ tallyOf t pg) n (placesIn t) inside fine) ∙ so-far .left);
-        }
+          pub counts-on : Tallying t pg row′ end′ (n + 1) (set counts a (getD counts a 0 + 1))
+          counts-on = record {
+            to = omega (arith, inside);
+            on = walks-on at-row;
+            counted =
+                rw (add-one n, add-one (getD counts a 0), so-far .counted)
+                (counts-next (answerAt t pg) n a answer-is (rw is-number (five-answers j)));
+            left =
+                rw (add-one n)
+                (sym (each-passed (cellCheckAt t pg) (0 ∷ tallyOf t pg) n (placesIn t) inside (bad-on-way at-row inside pg fine)) ∙ so-far .left);
+          }

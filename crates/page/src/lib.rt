@@ -6,7 +6,9 @@ use answers::Refusal;
 use inner::reading::coefficient_at;
 use inner::reading::read_at;
 use inner::taking::collect_records;
+use inner::taking::names_other_row;
 use inner::taking::parts;
+use inner::taking::place_named;
 use inner::taking::take_record;
 use inner::tallying::tally_page;
 use pairing::inner::survey::Surveyed;
@@ -24,7 +26,7 @@ pub enum Arrival {
     Refused(Refusal),
 }
 
-// What a place shows; an unreadable one has its reason: 9, 10 or 14.
+// What a place shows; an unreadable one has its reason: 10 or 14.
 pub enum Answer {
     Sound,
     Mended,
@@ -71,8 +73,11 @@ pub fn take(table: &[u8], page: &mut [u8], bytes: &[u8]) -> Arrival
     ensures { λ r. ⌜ (takeMeaning r ≡ takeSays (now (table .entry)) (now (page .entry)) (now (bytes .entry)))
         × (now (page .exit) ≡ takeLeaves (now (table .entry)) (now (page .entry)) (now (bytes .entry))) ⌝ }
 {
-    match survey_page(table, page) {
-        Surveyed::Good { places, row: _ } => take_record(table, places, page, bytes),
+    match survey_page(table, page, place_named(bytes)) {
+        Surveyed::Good { places, row } => {
+            let foreign = names_other_row(bytes, row);
+            take_record(table, places, foreign, page, bytes)
+        }
         Surveyed::Bad(refusal) => Arrival::Refused(refusal),
     }
 }
@@ -83,7 +88,7 @@ pub fn collect(table: &[u8], page: &mut [u8], bytes: &[u8]) -> usize
     ensures { λ r. ⌜ (r ≡ collected (now (table .entry)) (now (page .entry)) (now (bytes .entry)) .refused)
         × (now (page .exit) ≡ collected (now (table .entry)) (now (page .entry)) (now (bytes .entry)) .page) ⌝ }
 {
-    match survey_page(table, page) {
+    match survey_page(table, page, 0) {
         Surveyed::Good { places, row: _ } => collect_records(table, places, page, bytes),
         Surveyed::Bad(_) => parts(bytes.len()),
     }
@@ -124,7 +129,7 @@ pub fn coefficient(table: &[u8], page: &[u8], place: usize, coordinate: usize) -
 pub fn tally(table: &[u8], page: &[u8]) -> Tallied
     ensures { λ r. ⌜ tallyMeaning r ≡ tallySays (now (table .entry)) (now (page .entry)) ⌝ }
 {
-    match survey_page(table, page) {
+    match survey_page(table, page, 0) {
         Surveyed::Good { places, row } => tally_page(table, places, row, page),
         Surveyed::Bad(refusal) => Tallied::Refused(refusal),
     }

@@ -1,3 +1,4 @@
 // What other calls ask of a table.
+pub mod starts;
 pub mod survey;
 pub mod walking;

@@ -9,7 +9,7 @@ use Rattle.rules.specs.Taking.{badCell}
 use Rattle.places.specs.declared.inner.looking.Looked.{Looked}
 use Rattle.places.specs.declared.inner.looking.Looked.the-variants as looks
 
--- place p of the page, in row number r
+-- place p of the page, in the row of number r
 abbrev pub Looks : List ℕ → ℕ → List ℕ → ℕ → Looked → Type 0
-Looks row r pg p looks.Bad = badCell p (cellAt pg p) ≡ true
-Looks row r pg p (looks.At seen) = (badCell p (cellAt pg p) ≡ false) × Sees row r (cellAt pg p) seen
+Looks row r pg p looks.Bad = badCell p r (cellAt pg p) ≡ true
+Looks row r pg p (looks.At seen) = (badCell p r (cellAt pg p) ≡ false) × Sees row (cellAt pg p) seen

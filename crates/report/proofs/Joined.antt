@@ -20,7 +20,7 @@ module _ (t pg : List ℕ) where
 
   -- `row` is what is lent of the row of place p, n its number
   pub line-more : {held x y row : List ℕ} {from p n end r : ℕ} → from ≤ p → n ≡ rowOf t p → row ≡ rowAt t n
-      → LinesTo from p held end x → Wrote x end (lineIn row n pg p) lineSpace r y → LinesTo from (p + 1) held r y
+      → LinesTo from p held end x → Wrote x end (lineIn row pg p) lineSpace r y → LinesTo from (p + 1) held r y
   line-more {x = x} {y = y} {from = from} {p = p} {end = end} {r = r} h is-number is-row so-far line =
       let one : p + 1 - from ≡ (p - from) + 1 = omega arith in
       let here : from + (p - from) ≡ p = omega arith in

@@ -74,27 +74,27 @@ module _ {t pg : List ℕ} {p places row : ℕ} (found : Listable t pg p places 
     has-room =
         let place = look-place t pg p (found .passes) in
         record {
-          in-page = record {
+          spans = record {
             size = rw (found .is-places) (look-size t pg p (found .passes));
             places-to = rw (found .is-places) (places-to t (place .0));
             to-places = omega (arith, from-places, is-count);
+            is-places = found .is-places;
+            placed = placed-in (place .0) (place .1) (found .is-row);
+            from-to = omega arith;
           };
-          is-places = found .is-places;
-          placed = placed-in (place .0) (place .1) (found .is-row);
-          from-to = omega arith;
           room = omega (arith, is-count);
         }
 
     -- what is said of their cells, and then written
     module _ (room : lineSpace ≤ length held) where
-      pub lines-12 : (r : Refusal) → meaning r ≡ firstOf (eachFrom (cellCheckAt pg) p (p + count - p)) (0 ∷ []) → SaysLines t pg p held (meaning r) held 0
+      pub lines-12 : (r : Refusal) → meaning r ≡ firstOf (eachFrom (cellCheckAt t pg) p (p + count - p)) (0 ∷ []) → SaysLines t pg p held (meaning r) held 0
       lines-12 r said = lines-refused t pg p held r (rw (le-ltb (length held) lineSpace room) (rw fits at said))
 
-      pub lines-written : {end : ℕ} {x : List ℕ} → 0 ∷ [] ≡ firstOf (eachFrom (cellCheckAt pg) p (p + count - p)) (0 ∷ [])
+      pub lines-written : {end : ℕ} {x : List ℕ} → 0 ∷ [] ≡ firstOf (eachFrom (cellCheckAt t pg) p (p + count - p)) (0 ∷ [])
           → Wrote held 0 (linesFrom t pg p (p + count - p)) (lineSpace * (p + count - p)) end x → SaysLines t pg p held (0 ∷ (p + count) ∷ end ∷ []) x end
       lines-written {end} said w =
           let b = length held in
-          let none-bad = says-passes [] [] (eachFrom (cellCheckAt pg) p (linesFit t p b)) (each-numbered (cellCheckAt pg) p (linesFit t p b) (λ j. lit< tt)) (sym (rw fits at said)) in
+          let none-bad = says-passes [] [] (eachFrom (cellCheckAt t pg) p (linesFit t p b)) (each-numbered (cellCheckAt t pg) p (linesFit t p b) (λ j. lit< tt)) (sym (rw fits at said)) in
           let wrote = rw fits at w in
           let to : p + count ≡ p + linesFit t p b = omega (arith, fits) in
           let size : end ≡ length (linesText t pg p b) = omega (arith, wrote .ends) in

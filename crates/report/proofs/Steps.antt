@@ -51,8 +51,8 @@ module _ (t : List ℕ) where
 
   -- ---- a page that grew
   module _ (good : Good t) (xs : List (List ℕ)) where
-    none-bad : (p n : ℕ) → p + n ≤ placesIn t → Passes (eachFrom (cellCheckAt (grown t xs)) p n)
-    none-bad p n to = passes-each (cellCheckAt (grown t xs)) p n (λ j from below. grown-not-bad t good xs j (omega arith))
+    none-bad : (p n : ℕ) → p + n ≤ placesIn t → Passes (eachFrom (cellCheckAt t (grown t xs)) p n)
+    none-bad p n to = passes-each (cellCheckAt t (grown t xs)) p n (λ j from below. grown-not-bad t good xs j (omega arith))
 
     counted : tallySays t (grown t xs) ≡ 0 ∷ tallyOf t (grown t xs)
     counted =
@@ -79,7 +79,7 @@ module _ (t : List ℕ) where
   said-goes-on pg held p to size said =
       let b = length held in
       let cs = linesChecks t pg p b in
-      let rest : Numbered (linesRest t pg p b) = (lit< tt, each-numbered (cellCheckAt pg) p (linesFit t p b) (λ j. lit< tt)) in
+      let rest : Numbered (linesRest t pg p b) = (lit< tt, each-numbered (cellCheckAt t pg) p (linesFit t p b) (λ j. lit< tt)) in
       let passes = says-passes ((p + linesFit t p b) ∷ length (linesText t pg p b) ∷ []) (to ∷ size ∷ []) cs (numbered-then (lookChecks t pg p) (linesRest t pg p b) (look-numbered t pg p) rest) (sym said) in
       let both = passes-apart (lookChecks t pg p) (linesRest t pg p b) passes in
       let place = look-place t pg p (both .0) in

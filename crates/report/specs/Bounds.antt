@@ -10,18 +10,18 @@ use Rattle.layout.specs.Layout.{pageLength}
 use Rattle.rules.specs.Taking.{lookChecks}
 use Rattle.report.specs.Calls.{lineSpace}
 
--- the places from `from` to the one before `to` are in the page
-pub record PlacesIn (pg : List ℕ) (places to : ℕ) : Type 0 where
+-- the places from `from`, which is in this row of a good table, to the one before `to` are in the page
+pub record Spans (t : List ℕ) (row : ℕ) (pg : List ℕ) (places from to : ℕ) : Type 0 where
   pub size : length pg ≡ pageLength places
   pub places-to : places ≤ 4096
   pub to-places : to ≤ places
-
--- their lines can be written into a buffer; `from` is in this row of a good table
-pub record HasRoom (t : List ℕ) (row : ℕ) (pg : List ℕ) (places from to : ℕ) (out : List ℕ) : Type 0 where
-  pub in-page : PlacesIn pg places to
   pub is-places : places ≡ placesIn t
   pub placed : Placed t from row
   pub from-to : from ≤ to
+
+-- and their lines can be written into a buffer
+pub record HasRoom (t : List ℕ) (row : ℕ) (pg : List ℕ) (places from to : ℕ) (out : List ℕ) : Type 0 where
+  pub spans : Spans t row pg places from to
   pub room : lineSpace * (to - from) ≤ length out
 
 -- a table, a place and a page that passed their checks, with so many places, and the row of the place

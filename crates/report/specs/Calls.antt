@@ -53,7 +53,7 @@ linesFit t p b = min (placesIn t - p) (b / lineSpace)
 
 -- 7, 8, 4, 12: 12 for the places whose lines are written, with the lowest; first those after the page's
 abbrev pub linesRest : List ℕ → List ℕ → ℕ → ℕ → List Check
-linesRest t pg p b = noRoom b ∷ eachFrom (cellCheckAt pg) p (linesFit t p b)
+linesRest t pg p b = noRoom b ∷ eachFrom (cellCheckAt t pg) p (linesFit t p b)
 
 abbrev pub linesChecks : List ℕ → List ℕ → ℕ → ℕ → List Check
 linesChecks t pg p b = lookChecks t pg p ++ linesRest t pg p b

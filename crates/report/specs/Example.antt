@@ -7,7 +7,7 @@ use lib.ListN.{take, replicate}
 use Rattle.answers.specs.Refusals.{meaning, printed}
 use Rattle.answers.specs.declared.Refusal.the-variants as refusal
 use Rattle.tables.specs.Example.{wholeCase}
-use Rattle.rules.specs.Example.{of, first, second, other, page, state-3}
+use Rattle.rules.specs.Example.{of, first, second, other, page, state-3, rows-0-1, row-below}
 use Rattle.text.specs.Text.{ascii, refusedText}
 use Rattle.report.specs.Listing.{lastLine, listing}
 use Rattle.report.specs.Calls.{linesSays, linesLeaves, lineSays, lineLeaves}
@@ -23,6 +23,8 @@ pub record Example : Type 0 where
   -- a record that differs, one that cannot be read, one of no place, and a shorter last part
   pub damaged : listing wholeCase (first ++ other ++ of 1 0 1 32 ++ of 2 0 1 5 ++ take 7 first)
       ≡ ascii "0 contested 0 0 0 0\n1 unreadable 14 0 0 0\ntally 0 0 0 1 1 2\n"
+  -- a record with a foreign row beside the two: a refused take, and nothing else
+  pub foreign-row : listing wholeCase (first ++ of 0 1 1 7 ++ second) ≡ ascii "0 sound 0 1 0 -1\n1 mended 0 0 -1 1\ntally 1 1 0 0 0 1\n"
   -- a bad table, and none
   pub bad-table : listing (wholeCase ++ (1 ∷ [])) first ≡ ascii "refused 7\n"
   pub no-table : listing [] first ≡ ascii "refused 7\n"
@@ -38,6 +40,7 @@ pub record Example : Type 0 where
   pub lines-4-page : linesSays wholeCase (take 17 state-3) 0 (nines 256) ≡ 4 ∷ []
   pub lines-4-room : linesSays wholeCase state-3 0 (nines 255) ≡ 4 ∷ []
   pub lines-12 : linesSays wholeCase state-3 0 (nines 256) ≡ 12 ∷ 0 ∷ []
+  pub lines-12-row : linesSays rows-0-1 row-below 1 (nines 512) ≡ 12 ∷ 2 ∷ []
   pub lines-past-12 : linesSays wholeCase state-3 1 (nines 256) ≡ 0 ∷ 2 ∷ 18 ∷ []
   pub refused-leaves : linesLeaves wholeCase state-3 0 (nines 256) ≡ nines 256
   -- a refusal that names two values

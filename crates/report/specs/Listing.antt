@@ -1,10 +1,10 @@
 -- The listing of a page (docs/RULES.md, "Listing program"). t is the bytes of `pairing.bin`, pg those of a page;
--- `row` is the bytes of a row, r its number.
+-- `row` is the bytes of a row.
 use Prim.Native.Nat.{ℕ}
 use mathlib.Core.List.{List, [], _∷_, _++_}
 use Rattle.answers.specs.Checks.{anyOf, pick, failsOf}
 use Rattle.buffers.specs.Joined.{joined}
-use Rattle.tables.specs.Table.{placesIn, tableChecks, rowOf, rowFor}
+use Rattle.tables.specs.Table.{placesIn, tableChecks, rowFor}
 use Rattle.layout.specs.Layout.{cellAt, emptyPage}
 use Rattle.rules.specs.Taking.{Received, collected}
 use Rattle.rules.specs.Judging.{judge, answerNumber, reasonOf, shown}
@@ -17,13 +17,13 @@ use Rattle.text.specs.Text.{placeText, lastText, refusedText}
 abbrev pub lineOf : List ℕ → ℕ → Judged → List ℕ
 lineOf row p j = placeText p (answerNumber j) (reasonOf j) (shown row j)
 
--- of a place p in row number r
-abbrev pub lineIn : List ℕ → ℕ → List ℕ → ℕ → List ℕ
-lineIn row r pg p = lineOf row p (judge row r (cellAt pg p))
+-- of a place p in a row
+abbrev pub lineIn : List ℕ → List ℕ → ℕ → List ℕ
+lineIn row pg p = lineOf row p (judge row (cellAt pg p))
 
 -- in its own row, whatever it is
 abbrev pub lineAt : List ℕ → List ℕ → ℕ → List ℕ
-lineAt t pg p = lineIn (rowFor t p) (rowOf t p) pg p
+lineAt t pg p = lineIn (rowFor t p) pg p
 
 -- the lines of n places, from place p on
 abbrev pub linesFrom : List ℕ → List ℕ → ℕ → ℕ → List ℕ

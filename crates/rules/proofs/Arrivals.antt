@@ -9,38 +9,41 @@ use lib.ListN.{length}
 use borrow.Author.Tests.{eqb-true, eqb-false, eq-eqb}
 use Rattle.answers.specs.Checks.{pick, anyOf, failsOf, Passes}
 use Rattle.answers.proofs.InOrder.{fails-then, fails-leaves}
-use Rattle.tables.specs.Table.{placesIn}
-use Rattle.records.specs.Record.{recordLength, placeIn}
+use Rattle.tables.specs.Table.{placesIn, rowOf}
+use Rattle.records.specs.Record.{recordLength, placeIn, rowIn}
 use Rattle.layout.proofs.Cells.{length-record, length-set-cell, cell-set-same, cell-set-other, page-ext}
 use Rattle.layout.specs.Layout.{Cell, cellAt, setCell}
-use Rattle.rules.specs.Taking.{namesPlace, claims, badCell, pageChecks, takeRest, takeChecks, takeInto, takeLeaves, refusals, arriveCell}
+use Rattle.rules.specs.Taking.{isOf, claims, badCell, badAt, pageChecks, takeRest, takeChecks, takeInto, takeLeaves, refusals, arriveCell}
 use Rattle.rules.proofs.CellRule.{length-arrives, bad-stays, arrives-two}
 use Rattle.rules.proofs.Claims.{Claims, claim?, claim-is, is-claim, no-claim, claims-own, nextCell, claimed-leaves, claimed-refusals, none-leaves, none-refusals}
 use Rattle.rules.proofs.Pages.{page-passes, page-good, page-size}
 
--- a record that claims a place names it
-pub claim-names : (t x : List ℕ) (p : ℕ) → claims t x p ≡ true → namesPlace x p ≡ true
-claim-names t x p e = eq-eqb (placeIn x) p (claim-is t x p e .named)
+-- a record that claims a place is of that place and of its row
+pub claim-of : (t x : List ℕ) (p : ℕ) → claims t x p ≡ true → isOf x p (rowOf t p) ≡ true
+claim-of t x p e =
+    let own = claim-is t x p e in
+    rw (eq-eqb (placeIn x) p (own .named), eq-eqb (rowIn x) (rowOf t p) (own .of-row)) refl
 
 module _ (t : List ℕ) where
   module _ (pg : List ℕ) (ready : Passes (pageChecks t pg)) (x : List ℕ) where
     -- by whether it claims the place that it names
     module _ (own : Claims t x (placeIn x)) where
-      made-length : length (arriveCell (placeIn x) x (cellAt pg (placeIn x)) .bytes) ≡ recordLength
+      abbrev made : Cell
+      made = arriveCell (placeIn x) (rowOf t (placeIn x)) x (cellAt pg (placeIn x))
+
+      made-length : length (made .bytes) ≡ recordLength
       made-length =
-          length-arrives (placeIn x) x (cellAt pg (placeIn x)) (own .eight) (length-record (placesIn t) pg (page-size t pg ready) (placeIn x) (own .inside))
+          length-arrives (placeIn x) (rowOf t (placeIn x)) x (cellAt pg (placeIn x)) (own .eight)
+          (length-record (placesIn t) pg (page-size t pg ready) (placeIn x) (own .inside))
 
       claimed-size : length (takeLeaves t pg x) ≡ length pg
       claimed-size =
           ap length (claimed-leaves t pg ready x (placeIn x) own)
-          ∙ length-set-cell (placesIn t) pg (page-size t pg ready) (placeIn x) (own .inside) (arriveCell (placeIn x) x (cellAt pg (placeIn x))) made-length
+          ∙ length-set-cell (placesIn t) pg (page-size t pg ready) (placeIn x) (own .inside) made made-length
 
       claimed-cell : (q : ℕ) → q < placesIn t → cellAt (takeLeaves t pg x) q ≡ nextCell t q x (cellAt pg q)
       claimed-cell q h = ap (λ (page : List ℕ). cellAt page q) (claimed-leaves t pg ready x (placeIn x) own) ∙ go (eqb (placeIn x) q) refl
         where
-          made : Cell
-          made = arriveCell (placeIn x) x (cellAt pg (placeIn x))
-
           go : (b : Bool) → eqb (placeIn x) q ≡ b → cellAt (setCell pg (placeIn x) made) q ≡ nextCell t q x (cellAt pg q)
           go true e =
               let same = eqb-true (placeIn x) q e in
@@ -68,11 +71,11 @@ module _ (t : List ℕ) where
             ap (λ (page : List ℕ). cellAt page q) (none-leaves t pg ready x none) ∙ rw (no-claim t x q (λ c. none (claims-own t x q c))) refl
 
     -- whether a cell is refused does not change
-    pub bad-unmoved : (q : ℕ) → q < placesIn t → badCell q (cellAt (takeLeaves t pg x) q) ≡ badCell q (cellAt pg q)
-    bad-unmoved q h = ap (badCell q) (taken-cell q h) ∙ go (claims t x q) refl
+    pub bad-unmoved : (q : ℕ) → q < placesIn t → badAt t (takeLeaves t pg x) q ≡ badAt t pg q
+    bad-unmoved q h = ap (badCell q (rowOf t q)) (taken-cell q h) ∙ go (claims t x q) refl
       where
-        go : (b : Bool) → claims t x q ≡ b → badCell q (pick b (arriveCell q x (cellAt pg q)) (cellAt pg q)) ≡ badCell q (cellAt pg q)
-        go true e = bad-stays q x (cellAt pg q) (claim-names t x q e)
+        go : (b : Bool) → claims t x q ≡ b → badCell q (rowOf t q) (pick b (arriveCell q (rowOf t q) x (cellAt pg q)) (cellAt pg q)) ≡ badAt t pg q
+        go true e = bad-stays q (rowOf t q) x (cellAt pg q) (claim-of t x q e)
         go false e = refl
 
   -- and still takes records
@@ -101,10 +104,13 @@ module _ (t : List ℕ) where
   next-two : (q : ℕ) (x y : List ℕ) (c : Cell) → nextCell t q x (nextCell t q y c) ≡ nextCell t q y (nextCell t q x c)
   next-two q x y c = go (claims t x q) (claims t y q) refl refl
     where
+      r : ℕ
+      r = rowOf t q
+
       go : (a b : Bool) → claims t x q ≡ a → claims t y q ≡ b
-          → pick a (arriveCell q x (pick b (arriveCell q y c) c)) (pick b (arriveCell q y c) c)
-          ≡ pick b (arriveCell q y (pick a (arriveCell q x c) c)) (pick a (arriveCell q x c) c)
-      go true true e f = arrives-two q x y c (claim-names t x q e) (claim-names t y q f)
+          → pick a (arriveCell q r x (pick b (arriveCell q r y c) c)) (pick b (arriveCell q r y c) c)
+          ≡ pick b (arriveCell q r y (pick a (arriveCell q r x c) c)) (pick a (arriveCell q r x c) c)
+      go true true e f = arrives-two q r x y c (claim-of t x q e) (claim-of t y q f)
       go true false e f = refl
       go false true e f = refl
       go false false e f = refl

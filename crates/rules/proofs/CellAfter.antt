@@ -7,14 +7,14 @@ use mathlib.Core.List.{List, [], _∷_, List·Memᴰ, List·Memᴰ·head, List·
 use mathlib.Core.Bool.{Bool, true, false, false≢true}
 use mathlib.Core.Logic.{⊎-elim}
 use Rattle.answers.specs.Checks.{pick, Passes}
-use Rattle.tables.specs.Table.{placesIn}
+use Rattle.tables.specs.Table.{placesIn, rowOf}
 use Rattle.records.proofs.Same.{same-bytes, bytes-same, bytes-differ, differ-bytes}
 use Rattle.records.specs.Record.{sameBytes}
 use Rattle.layout.specs.Layout.{Cell, cellAt}
 use Rattle.rules.specs.Taking.{claims, heldCell, contestedCell, badCell, pageChecks, Received, arrive, after, arriveCell, Nobody, AllEqual}
 use Rattle.rules.proofs.CellRule.{takes-empty, takes-held, takes-contested}
 use Rattle.rules.proofs.Claims.{nextCell}
-use Rattle.rules.proofs.Arrivals.{claim-names, taken-cell, ready-after}
+use Rattle.rules.proofs.Arrivals.{claim-of, taken-cell, ready-after}
 
 -- the cell c of place p, after xs
 unfoldable pub cellAfter : List ℕ → ℕ → Cell → List (List ℕ) → Cell
@@ -36,9 +36,9 @@ module _ (t : List ℕ) where
       ∙ ap (λ (c : Cell). cellAfter t p c xs) (taken-cell t (s .page) ready x p h)
 
 -- ---- one arrival
-empty-not-bad : (p : ℕ) (c : Cell) → c .state ≡ 0 → badCell p c ≡ false
+empty-not-bad : (p r : ℕ) (c : Cell) → c .state ≡ 0 → badCell p r c ≡ false
 unfolding badCell
-empty-not-bad p c s = rw s refl
+empty-not-bad p r c s = rw s refl
 
 module _ (t : List ℕ) (p : ℕ) (x : List ℕ) where
   pub passes-by : (c : Cell) → claims t x p ≡ false → nextCell t p x c ≡ c
@@ -46,21 +46,21 @@ module _ (t : List ℕ) (p : ℕ) (x : List ℕ) where
 
   module _ (e : claims t x p ≡ true) where
     fills : (c : Cell) → c .state ≡ 0 → nextCell t p x c ≡ heldCell x
-    fills c s = rw (e, empty-not-bad p c s) (takes-empty x c s)
+    fills c s = rw (e, empty-not-bad p (rowOf t p) c s) (takes-empty x c s)
 
     again : nextCell t p x (heldCell x) ≡ heldCell x
     unfolding badCell
-    again = rw (e, claim-names t x p e) (takes-held x (heldCell x) refl ∙ rw (same-bytes x) refl)
+    again = rw (e, claim-of t x p e) (takes-held x (heldCell x) refl ∙ rw (same-bytes x) refl)
 
     disputes : (y : List ℕ) → claims t y p ≡ true → (y ≡ x → ⊥) → nextCell t p x (heldCell y) ≡ contestedCell
     unfolding badCell
-    disputes y f apart = rw (e, claim-names t y p f) (takes-held x (heldCell y) refl ∙ rw (bytes-differ y x apart) refl)
+    disputes y f apart = rw (e, claim-of t y p f) (takes-held x (heldCell y) refl ∙ rw (bytes-differ y x apart) refl)
 
   stays-contested : nextCell t p x contestedCell ≡ contestedCell
   unfolding badCell
   stays-contested = go (claims t x p)
     where
-      go : (b : Bool) → pick b (arriveCell p x contestedCell) contestedCell ≡ contestedCell
+      go : (b : Bool) → pick b (arriveCell p (rowOf t p) x contestedCell) contestedCell ≡ contestedCell
       go true = takes-contested x contestedCell 0 refl
       go false = refl
 

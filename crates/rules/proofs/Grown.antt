@@ -6,18 +6,18 @@ use mathlib.Core.List.{List, [], _∷_, List·Memᴰ, List·Memᴰ·head, List·
 use mathlib.Core.Bool.{false}
 use native.Mathlib.Nat.{add-zero}
 use Rattle.answers.specs.Checks.{Passes}
-use Rattle.tables.specs.Table.{placesIn, Good}
+use Rattle.tables.specs.Table.{placesIn, Good, rowOf}
 use Rattle.records.specs.Record.{placeIn}
 use Rattle.layout.proofs.Cells.{empty-size, empty-cell}
 use Rattle.layout.specs.Layout.{cellAt, emptyPage}
-use Rattle.rules.specs.Taking.{badCell, pageChecks, refusals, Received, arrive, after, empty, grown}
+use Rattle.rules.specs.Taking.{badCell, badAt, pageChecks, refusals, Received, arrive, after, empty, grown}
 use Rattle.rules.proofs.Arrivals.{ready-after, bad-unmoved}
 use Rattle.rules.proofs.CellAfter.{after-ready}
 use Rattle.rules.proofs.Claims.{Claims, claimed-refusals}
 use Rattle.rules.proofs.Pages.{page-passes}
 
 pub bad-after : (t : List ℕ) (s : Received) (xs : List (List ℕ)) → Passes (pageChecks t (s .page)) → (p : ℕ) → p < placesIn t
-    → badCell p (cellAt (after t s xs .page) p) ≡ badCell p (cellAt (s .page) p)
+    → badAt t (after t s xs .page) p ≡ badAt t (s .page) p
 unfolding after arrive
 bad-after t s [] ready p h = refl
 bad-after t s (x ∷ xs) ready p h =
@@ -25,7 +25,7 @@ bad-after t s (x ∷ xs) ready p h =
 
 -- where no cell is refused, no take of a record that claims a place is
 claimed-after : (t : List ℕ) (s : Received) (xs : List (List ℕ)) → Passes (pageChecks t (s .page))
-    → ((p : ℕ) → p < placesIn t → badCell p (cellAt (s .page) p) ≡ false) → ((x : List ℕ) → List·Memᴰ x xs → Claims t x (placeIn x))
+    → ((p : ℕ) → p < placesIn t → badAt t (s .page) p ≡ false) → ((x : List ℕ) → List·Memᴰ x xs → Claims t x (placeIn x))
     → after t s xs .refused ≡ s .refused
 unfolding after arrive
 claimed-after t s [] ready whole claiming = refl
@@ -43,11 +43,11 @@ module _ (t : List ℕ) (good : Good t) where
   pub grown-ready : (xs : List (List ℕ)) → Passes (pageChecks t (grown t xs))
   grown-ready xs = after-ready t (empty t) xs empty-ready
 
-  empty-not-bad : (p : ℕ) → p < placesIn t → badCell p (cellAt (emptyPage (placesIn t)) p) ≡ false
+  empty-not-bad : (p : ℕ) → p < placesIn t → badAt t (emptyPage (placesIn t)) p ≡ false
   unfolding badCell
-  empty-not-bad p h = ap (badCell p) (empty-cell (placesIn t) p h)
+  empty-not-bad p h = ap (badCell p (rowOf t p)) (empty-cell (placesIn t) p h)
 
-  pub grown-not-bad : (xs : List (List ℕ)) (p : ℕ) → p < placesIn t → badCell p (cellAt (grown t xs) p) ≡ false
+  pub grown-not-bad : (xs : List (List ℕ)) (p : ℕ) → p < placesIn t → badAt t (grown t xs) p ≡ false
   grown-not-bad xs p h = bad-after t (empty t) xs empty-ready p h ∙ empty-not-bad p h
 
   -- it takes every record that claims a place

@@ -9,4 +9,5 @@ pub mod Grown
 pub mod Runs
 pub mod Blocks
 pub mod Shows
+pub mod Reasons
 pub mod Pages

@@ -1,9 +1,10 @@
--- A table and a page that take records: what the checks of both tell where they pass, and the other way round.
+-- A table and a page that take records: what the checks of both tell where they pass, and the other way round; and
+-- refusal 12 at a place, judged on the way through the rows.
 use Prim.Native.Nat.{ℕ, _<_}
 use mathlib.Core.Bool.{Bool, true, false}
 use mathlib.Core.List.{List, [], _∷_}
 use mathlib.Core.Logic.{_⊎_, inl, inr}
-use mathlib.Core.Path.{_≡_, refl}
+use mathlib.Core.Path.{_≡_, refl, sym, ap, _∙_}
 use lib.Dec.{lit<}
 use lib.ListN.{length}
 use borrow.Author.Tests.{eq-eqb}
@@ -12,9 +13,11 @@ use Rattle.answers.proofs.Lengths.{right-length}
 use Rattle.answers.specs.Checks.{anyOf, failsOf, Passes}
 use Rattle.tables.proofs.PlaceChecks.{place-numbered, place-passes}
 use Rattle.tables.proofs.Seven.{table-numbered}
+use Rattle.tables.proofs.Walking.{its-row}
 use Rattle.tables.specs.Table.{placesIn, tableChecks, placeChecks, Good}
-use Rattle.layout.specs.Layout.{pageLength}
-use Rattle.rules.specs.Taking.{pageCheck, pageChecks, lookChecks}
+use Rattle.tables.specs.Way.{AtRow}
+use Rattle.layout.specs.Layout.{pageLength, cellAt}
+use Rattle.rules.specs.Taking.{badCell, badAt, pageCheck, pageChecks, lookChecks}
 
 -- a page of the right length
 pub right-page : (t pg : List ℕ) → length pg ≡ pageLength (placesIn t) → pageCheck t pg .fails ≡ false
@@ -57,3 +60,8 @@ module _ (t pg : List ℕ) (p : ℕ) where
 
     pub look-size : length pg ≡ pageLength (placesIn t)
     look-size = right-length (length pg) (pageLength (placesIn t)) (passes-apart (placeChecks t p) (pageCheck t pg ∷ []) ready .1 .0)
+
+-- ---- a place on the way through the rows: 12 in the row that was reached is 12 in the row of the place
+pub bad-on-way : {t : List ℕ} {row end p : ℕ} → AtRow t row end p → p < placesIn t → (pg : List ℕ) {b : Bool} → badCell p row (cellAt pg p) ≡ b
+    → badAt t pg p ≡ b
+bad-on-way {p = p} at-row inside pg found = ap (λ (r : ℕ). badCell p r (cellAt pg p)) (sym (its-row at-row inside)) ∙ found

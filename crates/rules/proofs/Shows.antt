@@ -3,11 +3,11 @@
 use Prim.Native.Nat.{ℕ, zero, suc, _+_, _-_, _^_, _≤_, _<_}
 use mathlib.Core.Path.{_≡_, refl, ap}
 use mathlib.Core.List.{List, _∷_}
-use mathlib.Core.Bool.{Bool, true, false, not}
+use mathlib.Core.Bool.{Bool, true, false}
 use native.Mathlib.Omega.{arith}
 use native.Mathlib.Decide.{decLt}
 use native.Mathlib.Nat.{pow-suc}
-use lib.Dec.{eqb, leb, ltb}
+use lib.Dec.{leb, ltb}
 use lib.IntN.{pos}
 use lib.ListN.{replicate, length-replicate}
 use borrow.Author.Tests.{leb-false, ltb-true, ltb-false}
@@ -18,7 +18,7 @@ use Rattle.enumeration.specs.Enumeration.{Enumeration, Lawful, Full}
 use Rattle.enumeration.specs.Point.{OnShell, radiusOf}
 use Rattle.tables.specs.Usable.{IsUsable}
 use Rattle.tables.specs.Row.{lengthOf, radiiOf, radiusAt, enumerationOf, shellTotal, GoodRow}
-use Rattle.records.specs.Record.{rowIn, radiusNumberIn, codewordIn}
+use Rattle.records.specs.Record.{radiusNumberIn, codewordIn}
 use Rattle.layout.specs.Layout.{Cell}
 use Rattle.rules.specs.Taking.{byState}
 use Rattle.rules.specs.Judging.{judgeCodeword, judgeRecord, judge, NamesPoint, Shows}
@@ -86,25 +86,24 @@ module _ (row : List ℕ) (lawful : Lawful (enumerationOf row)) (full : Full (en
           named k (n - 2 ^ (width total - 1)) usable
           (mended-below total n (total-positive lawful (lengthOf row) k (good .length-from)) (leb-false (2 ^ width total) n p) (ltb-false n total q))
 
-  record-shows : (r : ℕ) (y : List ℕ) → Shows row (judgeRecord row r y)
+  record-shows : (y : List ℕ) → Shows row (judgeRecord row y)
   unfolding judgeRecord
-  record-shows r y = go (not (eqb (rowIn y) r)) (leb (radiiOf row) (radiusNumberIn y)) refl
+  record-shows y = go (leb (radiiOf row) (radiusNumberIn y)) refl
     where
       k : ℕ
       k = radiusAt row (radiusNumberIn y)
 
-      go : (a b : Bool) → leb (radiiOf row) (radiusNumberIn y) ≡ b
-          → Shows row (pick a (judged.Unreadable 9) (pick b (judged.Unreadable 10) (judgeCodeword (shellTotal row k) k (codewordIn y))))
-      go true b q = tt
-      go false true q = tt
-      go false false q = codeword-shows k (codewordIn y) (good .radius-usable (radiusNumberIn y) (leb-false (radiiOf row) (radiusNumberIn y) q))
+      go : (b : Bool) → leb (radiiOf row) (radiusNumberIn y) ≡ b
+          → Shows row (pick b (judged.Unreadable 10) (judgeCodeword (shellTotal row k) k (codewordIn y)))
+      go true q = tt
+      go false q = codeword-shows k (codewordIn y) (good .radius-usable (radiusNumberIn y) (leb-false (radiiOf row) (radiusNumberIn y) q))
 
   -- what a cell shows is such a point
-  pub judge-shows : (r : ℕ) (c : Cell) → Shows row (judge row r c)
+  pub judge-shows : (c : Cell) → Shows row (judge row c)
   unfolding judge
-  judge-shows r c = go (c .state)
+  judge-shows c = go (c .state)
     where
-      go : (s : ℕ) → Shows row (byState s judged.Missing (judgeRecord row r (c .bytes)) judged.Contested)
+      go : (s : ℕ) → Shows row (byState s judged.Missing (judgeRecord row (c .bytes)) judged.Contested)
       go zero = tt
-      go (suc zero) = record-shows r (c .bytes)
+      go (suc zero) = record-shows (c .bytes)
       go (suc (suc s)) = tt

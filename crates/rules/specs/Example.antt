@@ -8,7 +8,7 @@ use mathlib.Core.Bool.{true, false}
 use lib.Ieee.{binary32, toBits}
 use lib.IntN.{ℤ, pos, negsuc}
 use lib.ListN.{take, drop, replicate}
-use Rattle.tables.specs.Example.{wholeCase, fullRow, ofPlaces}
+use Rattle.tables.specs.Example.{wholeCase, ofPlaces}
 use Rattle.layout.specs.Layout.{Cell, emptyPage}
 use Rattle.rules.specs.Taking.{claims, badCell, takeSays, takeLeaves, collected}
 use Rattle.rules.specs.Judging.{judge}
@@ -37,7 +37,22 @@ other = of 0 0 1 7
 abbrev pub page : List ℕ
 page = 1 ∷ first ++ 1 ∷ second
 
--- pages at fault: the record of place 0 in both cells, that of place 1 in both, and a state of 3
+-- the row of the whole case twice: places 0 and 1 are in row 0, places 2 and 3 in row 1; and a page of it that holds
+-- a record of place 1 and one of place 2
+abbrev pub rows-0-1 : List ℕ
+rows-0-1 = wholeCase ++ wholeCase
+
+abbrev pub inner-two : List ℕ
+inner-two = replicate 9 0 ++ 1 ∷ of 1 0 1 5 ++ 1 ∷ of 2 1 1 7 ++ replicate 9 0
+
+-- pages at fault: in the cell of place 1 a record with the row of place 2, and the other way round
+abbrev pub row-above : List ℕ
+row-above = replicate 9 0 ++ 1 ∷ of 1 1 1 5 ++ replicate 18 0
+
+abbrev pub row-below : List ℕ
+row-below = replicate 18 0 ++ 1 ∷ of 2 0 1 7 ++ replicate 9 0
+
+-- the record of place 0 in both cells, that of place 1 in both, and a state of 3
 abbrev pub first-twice : List ℕ
 first-twice = 1 ∷ first ++ 1 ∷ first
 
@@ -91,9 +106,14 @@ pub record Example : Type 0 where
   pub taken-whole : collected wholeCase (replicate 18 0) (first ++ second) ≡ record { page = page; refused = 0 }
   pub taken : collected wholeCase (replicate 18 0) (first ++ second ++ take 7 first) ≡ record { page = page; refused = 1 }
   pub taken-1-byte : collected wholeCase (replicate 18 0) (first ++ second ++ take 1 first) ≡ record { page = page; refused = 1 }
-  -- what claims a place: 8 bytes that name it, whatever else they hold, if it is in the table
+  -- what claims a place: 8 bytes that name the place and its row, whatever else they hold, if it is in the table
   pub claims-own : claims wholeCase first 0 ≡ true
-  pub claims-other-fields : claims wholeCase (of 0 1 9 255) 0 ≡ true
+  pub claims-other-fields : claims wholeCase (of 0 0 9 255) 0 ≡ true
+  pub claims-row-above : claims wholeCase (of 0 1 1 5) 0 ≡ false
+  pub claims-last-of-row : claims rows-0-1 (of 1 0 1 5) 1 ≡ true
+  pub claims-row-of-next : claims rows-0-1 (of 1 1 1 5) 1 ≡ false
+  pub claims-first-of-row : claims rows-0-1 (of 2 1 1 5) 2 ≡ true
+  pub claims-row-before : claims rows-0-1 (of 2 0 1 5) 2 ≡ false
   pub claims-another : claims wholeCase first 1 ≡ false
   pub claims-short : claims wholeCase (take 7 first) 0 ≡ false
   pub claims-long : claims wholeCase (first ++ 0 ∷ []) 0 ≡ false
@@ -107,13 +127,20 @@ pub record Example : Type 0 where
   pub garbage-says : takeSays wholeCase garbled first ≡ 0 ∷ []
   pub garbage-stays : takeLeaves wholeCase garbled second ≡ garbled
   pub garbage-taken : takeSays wholeCase garbled second ≡ 0 ∷ []
-  -- refusal 12 for the cell of place 0: a state above 2, and a record of place 1, which a contested cell may hold
-  pub bad-state : badCell 0 (record { state = 3; bytes = first }) ≡ true
-  pub bad-place : badCell 0 (held second) ≡ true
-  pub own-place : badCell 0 (held first) ≡ false
-  pub not-held : badCell 0 (record { state = 2; bytes = second }) ≡ false
-  -- a record with a foreign row, no such radius number and a huge codeword is taken all the same
-  pub other-fields : takeLeaves wholeCase (replicate 18 0) (of 0 1 9 255) ≡ 1 ∷ of 0 1 9 255 ++ replicate 9 0
+  -- refusal 12 for the cell of place 0, in row 0: a state above 2, and a record of place 1 or of row 1, which a
+  -- contested cell may hold
+  pub bad-state : badCell 0 0 (record { state = 3; bytes = first }) ≡ true
+  pub bad-place : badCell 0 0 (held second) ≡ true
+  pub bad-row : badCell 0 0 (held (of 0 1 1 5)) ≡ true
+  pub own-place : badCell 0 0 (held first) ≡ false
+  pub own-row : badCell 2 1 (held (of 2 1 1 7)) ≡ false
+  pub not-held : badCell 0 0 (record { state = 2; bytes = of 1 1 1 18 }) ≡ false
+  -- a record with no such radius number and a huge codeword is taken all the same
+  pub other-fields : takeLeaves wholeCase (replicate 18 0) (of 0 0 9 255) ≡ 1 ∷ of 0 0 9 255 ++ replicate 9 0
+  -- each place of two rows takes its own row, and a foreign one changes nothing: neither an empty cell nor a held one
+  pub each-row : collected rows-0-1 (replicate 36 0) (of 1 0 1 5 ++ of 2 1 1 7) ≡ record { page = inner-two; refused = 0 }
+  pub foreign : collected rows-0-1 (replicate 36 0) (of 1 1 1 5 ++ of 2 0 1 7) ≡ record { page = replicate 36 0; refused = 2 }
+  pub foreign-beside : collected rows-0-1 inner-two (of 1 1 1 5 ++ of 2 0 1 7) ≡ record { page = inner-two; refused = 2 }
   -- ---- reading
   pub sound-says : readSays wholeCase page 0 zeros ≡ 0 ∷ 0 ∷ 0 ∷ []
   pub sound-leaves : readLeaves wholeCase page 0 zeros ≡ pos 1 ∷ pos 0 ∷ negsuc 0 ∷ []
@@ -129,16 +156,15 @@ pub record Example : Type 0 where
   pub garbage-missing : readSays wholeCase garbled 0 nines ≡ 0 ∷ 2 ∷ 0 ∷ []
   pub garbage-contested : readSays wholeCase garbled 1 nines ≡ 0 ∷ 3 ∷ 0 ∷ []
   -- codewords: N - 1, N, 2^b - 1, 2^b; at radius 0, where b is 0, 0 and 1
-  pub codeword-17 : judge wholeCase 0 (held (of 0 0 1 17)) ≡ judged.Sound 2 17
-  pub codeword-18 : judge wholeCase 0 (held (of 0 0 1 18)) ≡ judged.Mended 2 2
-  pub codeword-31 : judge wholeCase 0 (held (of 0 0 1 31)) ≡ judged.Mended 2 15
-  pub codeword-32 : judge wholeCase 0 (held (of 0 0 1 32)) ≡ judged.Unreadable 14
-  pub codeword-0-0 : judge wholeCase 0 (held (of 0 0 0 0)) ≡ judged.Sound 0 0
-  pub codeword-0-1 : judge wholeCase 0 (held (of 0 0 0 1)) ≡ judged.Unreadable 14
-  -- the reasons in their order; a row below the place's is foreign too
-  pub reason-9 : judge wholeCase 0 (held (of 0 1 2 99)) ≡ judged.Unreadable 9
-  pub reason-9-below : judge fullRow 1 (held (of 2 0 1 5)) ≡ judged.Unreadable 9
-  pub reason-10 : judge wholeCase 0 (held (of 0 0 2 99)) ≡ judged.Unreadable 10
+  pub codeword-17 : judge wholeCase (held (of 0 0 1 17)) ≡ judged.Sound 2 17
+  pub codeword-18 : judge wholeCase (held (of 0 0 1 18)) ≡ judged.Mended 2 2
+  pub codeword-31 : judge wholeCase (held (of 0 0 1 31)) ≡ judged.Mended 2 15
+  pub codeword-32 : judge wholeCase (held (of 0 0 1 32)) ≡ judged.Unreadable 14
+  pub codeword-0-0 : judge wholeCase (held (of 0 0 0 0)) ≡ judged.Sound 0 0
+  pub codeword-0-1 : judge wholeCase (held (of 0 0 0 1)) ≡ judged.Unreadable 14
+  -- the reasons in their order; what row a record names is not asked here
+  pub reason-10 : judge wholeCase (held (of 0 0 2 99)) ≡ judged.Unreadable 10
+  pub any-row : judge wholeCase (held (of 0 1 1 5)) ≡ judged.Sound 2 5
   -- ---- one coefficient: 1.0, 0.0 and -1.0; with a step of 775 over 256 the mended ones are 0.0, -3.02734375 and
   -- 3.02734375
   pub coefficient-sound : coefficientSays wholeCase page 0 0 ≡ 0 ∷ 0 ∷ 0 ∷ []
@@ -159,7 +185,7 @@ pub record Example : Type 0 where
   -- ---- the tally: sound, mended, missing, contested, unreadable
   pub tallied : tallySays wholeCase page ≡ 0 ∷ 1 ∷ 1 ∷ 0 ∷ 0 ∷ 0 ∷ []
   pub tallied-mixed : tallySays (ofPlaces 0 15) mixed ≡ 0 ∷ 5 ∷ 4 ∷ 3 ∷ 2 ∷ 1 ∷ []
-  -- ---- refusals of take: 7, 4, 8, 12; with two faults at once, the first is told
+  -- ---- refusals of take: 7, 4, 8, 9, 12; with two faults at once, the first is told
   pub take-7 : takeSays (take 15 wholeCase) (take 17 page) (take 7 first) ≡ 7 ∷ 0 ∷ []
   pub take-4-short : takeSays wholeCase page (take 7 (of 2 0 1 5)) ≡ 4 ∷ []
   pub take-4-long : takeSays wholeCase page (first ++ 0 ∷ []) ≡ 4 ∷ []
@@ -167,11 +193,22 @@ pub record Example : Type 0 where
   pub take-4-page-long : takeSays wholeCase (page ++ 0 ∷ []) first ≡ 4 ∷ []
   pub take-8 : takeSays wholeCase page (of 2 0 1 5) ≡ 8 ∷ []
   pub take-8-high : takeSays wholeCase page (1 ∷ drop 1 first) ≡ 8 ∷ []
+  pub take-4-then-9 : takeSays wholeCase page (take 7 (of 0 1 1 5)) ≡ 4 ∷ []
+  pub take-8-any-row : takeSays wholeCase page (of 2 1 1 5) ≡ 8 ∷ []
+  -- 9 for a row above and below that of the record's own place, before 12 of its cell
+  pub take-9-above : takeSays rows-0-1 inner-two (of 1 1 1 5) ≡ 9 ∷ []
+  pub take-9-below : takeSays rows-0-1 inner-two (of 2 0 1 7) ≡ 9 ∷ []
+  pub take-9-high : takeSays wholeCase page (of 0 255 1 5) ≡ 9 ∷ []
+  pub take-9-then-12 : takeSays wholeCase state-3 (of 0 1 1 5) ≡ 9 ∷ []
+  pub take-last-of-row : takeSays rows-0-1 inner-two (of 1 0 1 5) ≡ 0 ∷ []
+  pub take-first-of-row : takeSays rows-0-1 inner-two (of 2 1 1 7) ≡ 0 ∷ []
   -- 12 at the record's own place: a held record of a higher and of a lower place, one whose place differs in the
-  -- high byte, and a state above 2
+  -- high byte, one of a higher and of a lower row, and a state above 2
   pub take-12-higher : takeSays wholeCase second-twice first ≡ 12 ∷ []
   pub take-12-lower : takeSays wholeCase first-twice second ≡ 12 ∷ []
   pub take-12-high : takeSays wholeCase (1 ∷ 1 ∷ drop 1 first ++ 1 ∷ second) first ≡ 12 ∷ []
+  pub take-12-row-above : takeSays rows-0-1 row-above (of 1 0 1 5) ≡ 12 ∷ []
+  pub take-12-row-below : takeSays rows-0-1 row-below (of 2 1 1 7) ≡ 12 ∷ []
   pub take-12-state : takeSays wholeCase state-3 first ≡ 12 ∷ []
   pub take-beside-it : takeSays wholeCase second-twice second ≡ 0 ∷ []
   -- ---- of read: 7, 8, 4, 12
@@ -183,6 +220,9 @@ pub record Example : Type 0 where
   pub read-4-short : readSays wholeCase second-twice 0 (take 2 zeros) ≡ 4 ∷ []
   pub read-4-long : readSays wholeCase page 0 (pos 0 ∷ zeros) ≡ 4 ∷ []
   pub read-12 : readSays wholeCase second-twice 0 zeros ≡ 12 ∷ []
+  pub read-12-row-above : readSays rows-0-1 row-above 1 zeros ≡ 12 ∷ []
+  pub read-12-row-below : readSays rows-0-1 row-below 2 zeros ≡ 12 ∷ []
+  pub read-each-row : readSays rows-0-1 inner-two 2 zeros ≡ 0 ∷ 0 ∷ 0 ∷ []
   pub read-12-leaves : readLeaves wholeCase second-twice 0 nines ≡ nines
   -- ---- of one coefficient: 7, 8, 4, 13, 12; 13 at a missing place too
   pub coefficient-7 : coefficientSays (take 15 wholeCase) (take 17 page) 2 3 ≡ 7 ∷ 0 ∷ []
@@ -191,10 +231,14 @@ pub record Example : Type 0 where
   pub coefficient-13 : coefficientSays wholeCase second-twice 0 3 ≡ 13 ∷ []
   pub coefficient-13-missing : coefficientSays wholeCase (replicate 18 0) 0 3 ≡ 13 ∷ []
   pub coefficient-12 : coefficientSays wholeCase second-twice 0 2 ≡ 12 ∷ []
+  pub coefficient-12-row : coefficientSays rows-0-1 row-below 2 0 ≡ 12 ∷ []
   pub refused-carries : coefficientCarries wholeCase second-twice 0 2 ≡ []
   -- ---- of the tally: 7, 4, 12 with the lowest place
   pub tally-7 : tallySays (take 15 wholeCase) (take 17 page) ≡ 7 ∷ 0 ∷ []
   pub tally-4 : tallySays wholeCase (take 17 state-3) ≡ 4 ∷ []
   pub tally-4-long : tallySays wholeCase (page ++ 0 ∷ []) ≡ 4 ∷ []
   pub tally-12 : tallySays wholeCase first-twice ≡ 12 ∷ 1 ∷ []
+  pub tally-12-row-above : tallySays rows-0-1 row-above ≡ 12 ∷ 1 ∷ []
+  pub tally-12-row-below : tallySays rows-0-1 row-below ≡ 12 ∷ 2 ∷ []
+  pub tally-each-row : tallySays rows-0-1 inner-two ≡ 0 ∷ 2 ∷ 0 ∷ 2 ∷ 0 ∷ 0 ∷ []
   pub tally-12-lowest : tallySays wholeCase (3 ∷ first ++ 3 ∷ second) ≡ 12 ∷ 0 ∷ []

@@ -1,18 +1,19 @@
 -- The answer of a place (docs/RULES.md, "The page": "Reading a place"). One definition, `judge`, gives the answer
--- of a cell; the readers and the tally are that definition. `row` is the bytes of a row, r its number, c a cell.
+-- of a cell; the readers and the tally are that definition. `row` is the bytes of a row, c a cell.
 use Prim.Native.Nat.{ℕ, _-_, _^_, _<_}
 use mathlib.Core.List.{List}
 use mathlib.Core.Path.{_≡_}
-use mathlib.Core.Bool.{true, not}
-use lib.Dec.{eqb, leb, ltb}
+use mathlib.Core.Bool.{true}
+use mathlib.Core.Logic.{_⊎_}
+use lib.Dec.{leb, ltb}
 use lib.IntN.{ℤ, pos}
 use lib.ListN.{replicate}
 use Rattle.answers.specs.Checks.{pick}
 use Rattle.counts.specs.Width.{width}
 use Rattle.tables.specs.Row.{lengthOf, radiiOf, radiusAt, enumerationOf, shellTotal}
-use Rattle.tables.specs.Table.{rowOf, rowFor}
+use Rattle.tables.specs.Table.{rowFor}
 use Rattle.tables.specs.Usable.{IsUsable}
-use Rattle.records.specs.Record.{rowIn, radiusNumberIn, codewordIn}
+use Rattle.records.specs.Record.{radiusNumberIn, codewordIn}
 use Rattle.layout.specs.Layout.{Cell, cellAt}
 use Rattle.rules.specs.Taking.{byState}
 use Rattle.rules.specs.declared.Judged.{Judged}
@@ -29,20 +30,19 @@ judgeCodeword total k n =
 abbrev pub judgeIn : List ℕ → ℕ → ℕ → Judged
 judgeIn row k n = judgeCodeword (shellTotal row k) k n
 
--- row byte not the place's row: unreadable 9; radius number not in that row: unreadable 10
-unfoldable pub judgeRecord : List ℕ → ℕ → List ℕ → Judged
-judgeRecord row r y =
-    pick (not (eqb (rowIn y) r)) (judged.Unreadable 9)
-    (pick (leb (radiiOf row) (radiusNumberIn y)) (judged.Unreadable 10)
-    (judgeIn row (radiusAt row (radiusNumberIn y)) (codewordIn y)))
+-- radius number not in the row: unreadable 10; that the record is of this row was asked before, by refusal 12
+unfoldable pub judgeRecord : List ℕ → List ℕ → Judged
+judgeRecord row y =
+    pick (leb (radiiOf row) (radiusNumberIn y)) (judged.Unreadable 10)
+    (judgeIn row (radiusAt row (radiusNumberIn y)) (codewordIn y))
 
 -- state 0: missing; state 2: contested; a held record is judged
-unfoldable pub judge : List ℕ → ℕ → Cell → Judged
-judge row r c = byState (c .state) judged.Missing (judgeRecord row r (c .bytes)) judged.Contested
+unfoldable pub judge : List ℕ → Cell → Judged
+judge row c = byState (c .state) judged.Missing (judgeRecord row (c .bytes)) judged.Contested
 
 -- of a place p of a page
 abbrev pub judgeAt : List ℕ → List ℕ → ℕ → Judged
-judgeAt t pg p = judge (rowFor t p) (rowOf t p) (cellAt pg p)
+judgeAt t pg p = judge (rowFor t p) (cellAt pg p)
 
 -- the five answers, numbered in the order in which the tally counts them
 abbrev pub answerNumber : Judged → ℕ
@@ -59,6 +59,14 @@ reasonOf (judged.Mended k n) = 0
 reasonOf judged.Missing = 0
 reasonOf judged.Contested = 0
 reasonOf (judged.Unreadable reason) = reason
+
+-- an unreadable place has the reason 10 or 14, and no other; proofs/Reasons.antt has it of every row and every cell
+abbrev pub Reasoned : Judged → Type 0
+Reasoned (judged.Sound k n) = Unit {0}
+Reasoned (judged.Mended k n) = Unit {0}
+Reasoned judged.Missing = Unit {0}
+Reasoned judged.Contested = Unit {0}
+Reasoned (judged.Unreadable reason) = (reason ≡ 10) ⊎ (reason ≡ 14)
 
 -- the point that n names in the shell of radius k
 abbrev pub pointNamed : List ℕ → ℕ → ℕ → List ℤ

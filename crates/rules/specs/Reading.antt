@@ -1,6 +1,6 @@
 -- What the calls read and coefficient say, and what read leaves in the lent buffer (docs/RULES.md, "The page",
 -- "Refusal numbers" and "Order of checks"). t is the table's bytes, pg the page's, p the place, i the coordinate;
--- all of them any. `row` is the bytes of a row.
+-- all of them any. `row` is the bytes of a row, r its number.
 use Prim.Native.Nat.{ℕ}
 use mathlib.Core.List.{List, [], _∷_, _++_}
 use lib.Dec.{leb}
@@ -10,7 +10,7 @@ use lib.ListN.{length, getD}
 use Rattle.answers.specs.Checks.{Check, firstOf, leaves, lengthCheck}
 use Rattle.floats.specs.Exact.{over256}
 use Rattle.tables.specs.Row.{lengthOf, stepOf}
-use Rattle.tables.specs.Table.{rowFor}
+use Rattle.tables.specs.Table.{rowOf, rowFor}
 use Rattle.layout.specs.Layout.{cellAt}
 use Rattle.rules.specs.Taking.{cellCheck, lookChecks}
 use Rattle.rules.specs.Judging.{judgeAt, answerNumber, reasonOf, shown}
@@ -27,11 +27,11 @@ told j = 0 ∷ answerNumber j ∷ reasonOf j ∷ []
 
 -- ---- the call read
 -- Read a place: 7, 8, 4, 12; first what is checked in the row of the place, b being the length of the lent buffer
-abbrev pub readRest : List ℕ → List ℕ → ℕ → ℕ → List Check
-readRest row pg p b = lengthCheck b (lengthOf row) ∷ cellCheck p (cellAt pg p) ∷ []
+abbrev pub readRest : List ℕ → ℕ → List ℕ → ℕ → ℕ → List Check
+readRest row r pg p b = lengthCheck b (lengthOf row) ∷ cellCheck p r (cellAt pg p) ∷ []
 
 abbrev pub readChecks : List ℕ → List ℕ → ℕ → ℕ → List Check
-readChecks t pg p b = lookChecks t pg p ++ readRest (rowFor t p) pg p b
+readChecks t pg p b = lookChecks t pg p ++ readRest (rowFor t p) (rowOf t p) pg p b
 
 -- what it is to say, and what it leaves in a buffer that held `held`
 abbrev pub readSays : List ℕ → List ℕ → ℕ → List ℤ → List ℕ
@@ -46,11 +46,11 @@ abbrev pub coordinateCheck : List ℕ → ℕ → Check
 coordinateCheck row i = record { number = 13; values = []; fails = leb (lengthOf row) i }
 
 -- One coefficient: 7, 8, 4, 13, 12; first what is checked in the row of the place
-abbrev pub coefficientRest : List ℕ → List ℕ → ℕ → ℕ → List Check
-coefficientRest row pg p i = coordinateCheck row i ∷ cellCheck p (cellAt pg p) ∷ []
+abbrev pub coefficientRest : List ℕ → ℕ → List ℕ → ℕ → ℕ → List Check
+coefficientRest row r pg p i = coordinateCheck row i ∷ cellCheck p r (cellAt pg p) ∷ []
 
 abbrev pub coefficientChecks : List ℕ → List ℕ → ℕ → ℕ → List Check
-coefficientChecks t pg p i = lookChecks t pg p ++ coefficientRest (rowFor t p) pg p i
+coefficientChecks t pg p i = lookChecks t pg p ++ coefficientRest (rowFor t p) (rowOf t p) pg p i
 
 -- the value is coordinate x step / 256 as f32; q is a point
 abbrev pub valueIn : List ℕ → List ℤ → ℕ → Float

@@ -8,18 +8,19 @@ use mathlib.Core.Bool.{Bool, true, false, not, _&&_}
 use lib.Dec.{eqb, ltb}
 use lib.ListN.{length, take, drop, replicate}
 use Rattle.answers.specs.Checks.{Check, anyOf, pick, firstOf, leaves, failsOf}
-use Rattle.tables.specs.Table.{placesIn, tableChecks, placeCheck, placeChecks, noSuchPlace}
-use Rattle.records.specs.Record.{recordLength, recordCheck, placeIn, sameBytes}
+use Rattle.tables.specs.Table.{placesIn, tableChecks, placeCheck, placeChecks, noSuchPlace, rowOf}
+use Rattle.records.specs.Record.{recordLength, recordCheck, placeIn, rowIn, sameBytes}
 use Rattle.layout.specs.Layout.{Cell, pageLengthCheck, cellAt, setCell, emptyPage}
 
 -- ---- claims
--- a record names a place
-abbrev pub namesPlace : List ℕ → ℕ → Bool
-namesPlace x p = eqb (placeIn x) p
+-- a record is of place p and of row r: it names both
+abbrev pub isOf : List ℕ → ℕ → ℕ → Bool
+isOf x p r = eqb (placeIn x) p && eqb (rowIn x) r
 
--- a taken record claims its place if that place is in the table; what is no record claims none
+-- a record claims its place if that place is in the table, and if it is of the row of that place; what is no record
+-- claims none
 unfoldable pub claims : List ℕ → List ℕ → ℕ → Bool
-claims t x p = eqb (length x) recordLength && namesPlace x p && not (noSuchPlace t p)
+claims t x p = eqb (length x) recordLength && isOf x p (rowOf t p) && not (noSuchPlace t p)
 
 -- ---- one cell
 -- a cell that holds the record y, and one that is contested, its bytes zero
@@ -35,18 +36,22 @@ byState zero empty held contested = empty
 byState (suc zero) empty held contested = held
 byState (suc (suc n)) empty held contested = contested
 
--- 12: state byte above 2, or a held record with another place number; c is the cell of place p
-unfoldable pub badCell : ℕ → Cell → Bool
-badCell p c = anyOf (ltb 2 (c .state) ∷ (eqb (c .state) 1 && not (namesPlace (c .bytes) p)) ∷ [])
+-- 12: state byte above 2, or a held record of another place or another row; c is the cell of place p, whose row is r
+unfoldable pub badCell : ℕ → ℕ → Cell → Bool
+badCell p r c = anyOf (ltb 2 (c .state) ∷ (eqb (c .state) 1 && not (isOf (c .bytes) p r)) ∷ [])
+
+-- of a place of a page
+abbrev pub badAt : List ℕ → List ℕ → ℕ → Bool
+badAt t pg p = badCell p (rowOf t p) (cellAt pg p)
 
 -- the page rule: empty becomes held, with the 8 bytes; held with the same 8 bytes stays; held with other bytes
 -- becomes contested, its 8 bytes zero; contested stays
 unfoldable pub takeCell : List ℕ → Cell → Cell
 takeCell x c = byState (c .state) (heldCell x) (pick (sameBytes (c .bytes) x) c contestedCell) c
 
--- what taking x makes of the cell of its place p: refusal 12 keeps it
-abbrev pub arriveCell : ℕ → List ℕ → Cell → Cell
-arriveCell p x c = pick (badCell p c) c (takeCell x c)
+-- what taking x makes of the cell of its place p, whose row is r: refusal 12 keeps it
+abbrev pub arriveCell : ℕ → ℕ → List ℕ → Cell → Cell
+arriveCell p r x c = pick (badCell p r c) c (takeCell x c)
 
 -- ---- the checks that calls share
 -- 4: page not 9 x places
@@ -54,11 +59,11 @@ abbrev pub pageCheck : List ℕ → List ℕ → Check
 pageCheck t pg = pageLengthCheck (placesIn t) (length pg)
 
 -- 12 at one place; and where it is judged at many, with the place
-abbrev pub cellCheck : ℕ → Cell → Check
-cellCheck p c = record { number = 12; values = []; fails = badCell p c }
+abbrev pub cellCheck : ℕ → ℕ → Cell → Check
+cellCheck p r c = record { number = 12; values = []; fails = badCell p r c }
 
-abbrev pub cellCheckAt : List ℕ → ℕ → Check
-cellCheckAt pg p = record { number = 12; values = p ∷ []; fails = badCell p (cellAt pg p) }
+abbrev pub cellCheckAt : List ℕ → List ℕ → ℕ → Check
+cellCheckAt t pg p = record { number = 12; values = p ∷ []; fails = badAt t pg p }
 
 -- of a table and a page: 7, 4
 abbrev pub pageChecks : List ℕ → List ℕ → List Check
@@ -69,9 +74,17 @@ abbrev pub lookChecks : List ℕ → List ℕ → ℕ → List Check
 lookChecks t pg p = placeChecks t p ++ (pageCheck t pg ∷ [])
 
 -- ---- the call take
--- Take: 7, 4, 8, 12; first those after the page's
+-- 9: row byte not the row of the record's place
+abbrev pub foreignCheck : List ℕ → List ℕ → Check
+foreignCheck t x = record { number = 9; values = []; fails = not (eqb (rowIn x) (rowOf t (placeIn x))) }
+
+-- 12 at the place that the record names
+abbrev pub ownCellCheck : List ℕ → List ℕ → List ℕ → Check
+ownCellCheck t pg x = cellCheck (placeIn x) (rowOf t (placeIn x)) (cellAt pg (placeIn x))
+
+-- Take: 7, 4, 8, 9, 12; first those after the page's
 abbrev pub takeRest : List ℕ → List ℕ → List ℕ → List Check
-takeRest t pg x = recordCheck (length x) ∷ placeCheck t (placeIn x) ∷ cellCheck (placeIn x) (cellAt pg (placeIn x)) ∷ []
+takeRest t pg x = recordCheck (length x) ∷ placeCheck t (placeIn x) ∷ foreignCheck t x ∷ ownCellCheck t pg x ∷ []
 
 abbrev pub takeChecks : List ℕ → List ℕ → List ℕ → List Check
 takeChecks t pg x = pageChecks t pg ++ takeRest t pg x

@@ -10,7 +10,7 @@ use Rattle.rules.specs.Judging.{judgeAt, answerNumber}
 
 -- Tally: 7, 4, 12, at every place; the lowest at fault is named
 abbrev pub tallyRest : List ℕ → List ℕ → List Check
-tallyRest t pg = eachFrom (cellCheckAt pg) 0 (placesIn t)
+tallyRest t pg = eachFrom (cellCheckAt t pg) 0 (placesIn t)
 
 abbrev pub tallyChecks : List ℕ → List ℕ → List Check
 tallyChecks t pg = pageChecks t pg ++ tallyRest t pg

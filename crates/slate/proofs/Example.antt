@@ -19,5 +19,6 @@ example =
       refused-7 = refl;
       refused-4 = refl;
       refused-8 = refl;
+      refused-9 = refl;
       refused-12 = refl;
     }

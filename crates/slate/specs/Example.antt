@@ -16,4 +16,5 @@ pub record Example : Type 0 where
   pub refused-7 : takeGives [] page first ≡ 7
   pub refused-4 : takeGives wholeCase page (take 7 first) ≡ 4
   pub refused-8 : takeGives wholeCase page (of 2 0 1 5) ≡ 8
+  pub refused-9 : takeGives wholeCase page (of 0 1 1 5) ≡ 9
   pub refused-12 : takeGives wholeCase second-twice first ≡ 12

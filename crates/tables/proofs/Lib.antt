@@ -9,3 +9,4 @@ pub mod Good
 pub mod Seven
 pub mod Walking
 pub mod PlaceChecks
+pub mod Starting

@@ -10,17 +10,25 @@
 enum { WIDTHS = 33 /* 0 to 32 */, LEAST_BYTES = 2 * 65536 + 2 };
 
 enum thing {
-    A_9,
     A_10,
     A_14,
-    BOTH_9_AND_10,
-    BOTH_9_AND_14,
     A_10_BELOW_8,
     A_10_AND_0,
     HELD_AND_REPEATED,
     CONTESTED_BY_SOUND,
     CONTESTED_AND_BACK,
     NOT_IN_TABLE,
+    OTHER_ROW_AT_SOUND,
+    OTHER_ROW_AT_MENDED,
+    OTHER_ROW_AT_MISSING,
+    OTHER_ROW_AT_CONTESTED,
+    OTHER_ROW_AT_UNREADABLE,
+    SAME_BUT_ROW,
+    ROW_BEFORE,
+    ROW_BEHIND,
+    NO_ROW,
+    OTHER_ROW_AND_10,
+    OTHER_ROW_AND_14,
     PART_OF_MISSING,
     SOUND_LAST,
     MENDED_FIRST,
@@ -35,17 +43,25 @@ enum thing {
 };
 
 static const char *const names[THINGS] = {
-    [A_9] = "places with reason 9",
     [A_10] = "places with reason 10",
     [A_14] = "places with reason 14",
-    [BOTH_9_AND_10] = "places with reason 9 whose radius number is not in the row either",
-    [BOTH_9_AND_14] = "places with reason 9 whose codeword is 2^b or more too",
     [A_10_BELOW_8] = "places with reason 10 and a radius number below 8",
     [A_10_AND_0] = "places with reason 10, a radius number below 8 and codeword 0",
     [HELD_AND_REPEATED] = "places that are held and whose record came again",
     [CONTESTED_BY_SOUND] = "places contested by two records that are sound by themselves",
     [CONTESTED_AND_BACK] = "contested places whose last record is the first one again",
     [NOT_IN_TABLE] = "records of places that are not in the table",
+    [OTHER_ROW_AT_SOUND] = "sound places for which a record of another row came too",
+    [OTHER_ROW_AT_MENDED] = "mended places for which a record of another row came too",
+    [OTHER_ROW_AT_MISSING] = "missing places for which a record of another row came",
+    [OTHER_ROW_AT_CONTESTED] = "contested places for which a record of another row came too",
+    [OTHER_ROW_AT_UNREADABLE] = "unreadable places for which a record of another row came too",
+    [SAME_BUT_ROW] = "records that differ from the first one of their place in the row alone",
+    [ROW_BEFORE] = "records of the row before that of their place",
+    [ROW_BEHIND] = "records of the row behind that of their place",
+    [NO_ROW] = "records of a row that is not in the table",
+    [OTHER_ROW_AND_10] = "records of another row whose radius number is not in the row of their place",
+    [OTHER_ROW_AND_14] = "records of another row whose codeword is 2^b or more in the row of their place",
     [PART_OF_MISSING] = "short last parts with the number of a place that is missing",
     [SOUND_LAST] = "places with codeword N - 1, N above 1",
     [MENDED_FIRST] = "places with codeword N that are mended",
@@ -56,6 +72,14 @@ static const char *const names[THINGS] = {
     [RADIUS_32_MENDED] = "mended places of radius 32",
     [TWO_DIGITS] = "coordinates above 9",
     [TWO_DIGITS_NEGATIVE] = "coordinates below -9",
+};
+
+static const enum thing other_row_at[READINGS] = {
+    [SOUND] = OTHER_ROW_AT_SOUND,
+    [MENDED] = OTHER_ROW_AT_MENDED,
+    [MISSING] = OTHER_ROW_AT_MISSING,
+    [CONTESTED] = OTHER_ROW_AT_CONTESTED,
+    [UNREADABLE] = OTHER_ROW_AT_UNREADABLE,
 };
 
 static struct {
@@ -72,6 +96,7 @@ static struct {
     int has_sound;
     int has_two_sound; /* and another one that is sound too */
     int is_last_the_first;
+    int has_other_row; /* a record of another row came */
     uint32_t differing; /* the bit 1 << byte for each byte in which a record differs from the first one */
 } told[MOST_PLACES];
 
@@ -95,6 +120,31 @@ static void tell_sound(const struct table *table, uint64_t place, const uint8_t 
     told[place].has_sound = 1;
 }
 
+/* 2^b for the shell of a record in a row, or 0 where its radius number is not in the row. */
+static uint64_t power_in(const uint8_t *row, const uint8_t *record)
+{
+    const uint64_t number = record[AT_RADIUS_NUMBER];
+    if (number >= row[AT_NUMBER_OF_RADII])
+        return 0;
+    return least_power_from(points_of((struct shell){row[AT_LENGTH], row[AT_RADII + number]}));
+}
+
+/* A record of another row than that of its place. */
+static void tell_foreign(const struct table *table, uint64_t place, const uint8_t *record)
+{
+    const uint64_t right = row_of(table, place), row = record[AT_ROW], rows = table->size / ROW_SIZE;
+    const uint64_t power = power_in(row_at(table, place), record);
+    const uint8_t *first = gathering.came[place].first;
+    const int is_same = memcmp(first + AT_RADIUS_NUMBER, record + AT_RADIUS_NUMBER, RECORD_SIZE - AT_RADIUS_NUMBER) == 0;
+    told[place].has_other_row = 1;
+    count_if(gathering.came[place].claims > 0 && is_same, SAME_BUT_ROW);
+    count_if(row + 1 == right, ROW_BEFORE);
+    count_if(row == right + 1 && row < rows, ROW_BEHIND);
+    count_if(row >= rows, NO_ROW);
+    count_if(power == 0, OTHER_ROW_AND_10);
+    count_if(power > 0 && codeword_of(record) >= power, OTHER_ROW_AND_14);
+}
+
 /* One record of the capture, when all is gathered. */
 static void tell_record(const struct table *table, const uint8_t *record)
 {
@@ -102,6 +152,10 @@ static void tell_record(const struct table *table, const uint8_t *record)
     count_if(place >= gathering.places, NOT_IN_TABLE);
     if (place >= gathering.places)
         return;
+    if (is_foreign(table, record)) {
+        tell_foreign(table, place, record);
+        return;
+    }
     const uint8_t *first = gathering.came[place].first;
     for (int i = 0; i < RECORD_SIZE; i++)
         told[place].differing |= (uint32_t)(record[i] != first[i]) << i;
@@ -144,17 +198,12 @@ static void count_shown(struct reading reading, uint64_t codeword)
     }
 }
 
-/* A place that is unreadable: which reasons there are, whichever comes first. */
+/* A place that is unreadable. */
 static void count_unreadable(const uint8_t *row, const uint8_t *record, uint64_t reason)
 {
-    const uint64_t number = record[AT_RADIUS_NUMBER], codeword = codeword_of(record);
-    const int is_10 = number >= row[AT_NUMBER_OF_RADII];
-    const uint64_t power = is_10 ? 0 : least_power_from(points_of((struct shell){row[AT_LENGTH], row[AT_RADII + number]}));
-    count_if(reason == 9, A_9);
+    const uint64_t number = record[AT_RADIUS_NUMBER], codeword = codeword_of(record), power = power_in(row, record);
     count_if(reason == 10, A_10);
     count_if(reason == 14, A_14);
-    count_if(reason == 9 && is_10, BOTH_9_AND_10);
-    count_if(reason == 9 && !is_10 && codeword >= power, BOTH_9_AND_14);
     count_if(reason == 10 && number < MOST_RADII, A_10_BELOW_8);
     count_if(reason == 10 && number < MOST_RADII && codeword == 0, A_10_AND_0);
     count_if(reason == 14 && codeword == power, FIRST_PAST_WIDTH);
@@ -167,6 +216,7 @@ static void count_place(const struct table *table, uint64_t place)
     const uint8_t *first = gathering.came[place].first;
     counted.answers[reading.word]++;
     count_if(reading.word != CONTESTED && gathering.came[place].claims > 1, HELD_AND_REPEATED);
+    count_if(told[place].has_other_row, other_row_at[reading.word]);
     if (reading.word == CONTESTED)
         count_contested(place);
     if (reading.word == SOUND || reading.word == MENDED)
@@ -180,7 +230,7 @@ static void count_all(const struct table *table, const struct capture *capture)
 {
     const uint64_t whole = capture->size / RECORD_SIZE * RECORD_SIZE;
     const uint8_t *part = capture->bytes + whole;
-    begin_gathering(&gathering, judge(table->bytes, table->size).places);
+    begin_gathering(&gathering, table);
     gather_run(&gathering, capture->bytes, capture->size);
     for (uint64_t at = 0; at < whole; at += RECORD_SIZE)
         tell_record(table, capture->bytes + at);
@@ -197,7 +247,7 @@ static void require_all(void)
         require(counted.things[thing], 1, "full page,", names[thing]);
     for (uint64_t word = 0; word < READINGS; word++)
         require_number(counted.answers[word], 1, "full page, places with answer", word);
-    for (uint64_t i = AT_ROW; i < RECORD_SIZE; i++)
+    for (uint64_t i = AT_RADIUS_NUMBER; i < RECORD_SIZE; i++)
         require_number(counted.differing[i], 1, "full page, places contested by records that differ in one byte alone, byte", i);
     for (uint64_t length = 1; length <= MOST_LENGTH; length++) {
         require_number(counted.of_length[SOUND][length], 1, "full page, sound places of length", length);

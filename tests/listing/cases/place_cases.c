@@ -2,10 +2,11 @@
 
 #include "../listing.h"
 
-/* Each of the five answers and of the three reasons, in row 0; the two records of place 3 come twice each. Then more
-   than one reason holds: places 7, 8, 9 and 10 have all three, 9 and 14, 10 and 14, 9 and 10. Place 11 has a row that
-   is not in the table. The radius number that is not in the row is 2, where a 0 stands behind the radii, but for place
-   12: there it is 8, where the step stands. */
+/* Each of the five answers and of the two reasons, in row 0; the two records of place 3 come twice each. At place 9
+   both reasons hold. The records of places 4, 7, 8, 10 and 11 are refused: they have another row, that of place 11 one
+   that is not in the table. At 4 and 11 nothing else is wrong; at 7 both reasons would hold, at 8 the reason 14, at 10
+   the reason 10. The radius number that is not in the row is 2, where a 0 stands behind the radii, but for place 12:
+   there it is 8, where the step stands. */
 static const uint8_t answers_table[] = {
     3, 2, 0, 2, 0, 0, 0, 0, 0, 0, 1, 0, 0, 8, 0, 0, /* places 0 to 7: N = 18, b = 5 */
     2, 2, 0, 3, 0, 0, 0, 0, 0, 0, 1, 0, 0, 6, 0, 0, /* places 8 to 13: N = 12, b = 4 */
@@ -20,20 +21,20 @@ static const char answers_text[] = "0 sound 0 -2 0 0\n"
                                    "1 mended 0 0 -2 0\n"
                                    "2 missing 0 0 0 0\n"
                                    "3 contested 0 0 0 0\n"
-                                   "4 unreadable 9 0 0 0\n"
+                                   "4 missing 0 0 0 0\n"
                                    "5 unreadable 10 0 0 0\n"
                                    "6 unreadable 14 0 0 0\n"
-                                   "7 unreadable 9 0 0 0\n"
-                                   "8 unreadable 9 0 0\n"
+                                   "7 missing 0 0 0 0\n"
+                                   "8 missing 0 0 0\n"
                                    "9 unreadable 10 0 0\n"
-                                   "10 unreadable 9 0 0\n"
-                                   "11 unreadable 9 0 0\n"
+                                   "10 missing 0 0 0\n"
+                                   "11 missing 0 0 0\n"
                                    "12 unreadable 10 0 0\n"
                                    "13 sound 0 -3 0\n"
-                                   "tally 2 1 1 1 9 0\n";
+                                   "tally 2 1 6 1 4 5\n";
 
 /* The first and the last place of each row. In rows 0 to 2 the records have the place's row; then that of a neighbour,
-   but for the last place of all. Codeword 1 is a point in every row. */
+   with which they are refused, but for the last place of all. Codeword 1 is a point in every row. */
 static const uint8_t six_rows[] = {
     1, 2, 0, 5, 0, 0, 0, 0, 0, 0, 1, 0, 0, 2, 0, 0, /* places 0 and 1 */
     2, 2, 0, 3, 0, 0, 0, 0, 0, 0, 1, 0, 0, 3, 0, 0, /* places 2 to 4 */
@@ -52,12 +53,12 @@ static const char ends_text[] = "0 sound 0 -5\n"
                                 "3 missing 0 0 0\n"
                                 "4 sound 0 1 -2\n"
                                 "5 sound 0 0 1 -1\n"
-                                "6 unreadable 9 0\n"
-                                "7 unreadable 9 0 0\n"
-                                "8 unreadable 9 0 0\n"
-                                "9 unreadable 9 0 0 0\n"
+                                "6 missing 0 0\n"
+                                "7 missing 0 0 0\n"
+                                "8 missing 0 0 0\n"
+                                "9 missing 0 0 0 0\n"
                                 "10 sound 0 0 1 -1\n"
-                                "tally 6 0 1 0 4 0\n";
+                                "tally 6 0 5 0 0 4\n";
 
 /* Each N is a power of two, so that nothing is mended. */
 static const uint8_t powers_table[] = {

@@ -38,8 +38,8 @@ static const uint8_t zero_record[] = {RECORD(0, 0, 0, 0)};
 
 /* What comes for a place, in three rounds. Place 0: the record of eight zeros, and another. 1: one record, and it
    again. 2, 3 and 4: two that differ, and then the first, the second, a third. 5: a sound one and a mended one of the
-   same point. 6: a sound one, and one of another row. 7: two with radius numbers that are not in the row. 8 and 9: an
-   unreadable one and a mended one, and each again. */
+   same point. 6: a sound one, and the same but for its row, which is refused. 7: two with radius numbers that are not
+   in the row. 8 and 9: an unreadable one and a mended one, and each again. */
 static const uint8_t eleven_places[] = {2, 2, 0, 3, 0, 0, 0, 0, 0, 0, 1, 0, 0, 11, 0, 0};
 static const uint8_t one_order[] = {
     RECORD(0, 0, 0, 0),  RECORD(1, 0, 1, 5), RECORD(2, 0, 1, 5), RECORD(3, 0, 1, 5),  RECORD(4, 0, 1, 5), /* round 1 */
@@ -54,12 +54,40 @@ static const char text_of_any_order[] = "0 contested 0 0 0\n"
                                         "3 contested 0 0 0\n"
                                         "4 contested 0 0 0\n"
                                         "5 contested 0 0 0\n"
-                                        "6 contested 0 0 0\n"
+                                        "6 sound 0 0 3\n"
                                         "7 contested 0 0 0\n"
                                         "8 unreadable 14 0 0\n"
                                         "9 mended 0 2 -1\n"
                                         "10 missing 0 0 0\n"
-                                        "tally 1 1 1 7 1 0\n";
+                                        "tally 2 1 1 6 1 1\n";
+
+/* Records of another row, which are refused: place 0 after its own record, the same but for the row, and one that was
+   sent for place 4; 1 before it; 2, 6 and 8 alone, at 8 two that differ; 3 with the row of the place before; 4 between
+   two that differ; 5 with rows that are not in the table, one of them the right one in its low 5 bits; 7 beside an
+   unreadable one. Place 9 is not in the table. */
+static const uint8_t foreign_table[] = {
+    3, 2, 0, 2, 0, 0, 0, 0, 0, 0, 1, 0, 0, 3, 0, 0, /* places 0 to 2: N = 18, b = 5 */
+    2, 2, 0, 3, 0, 0, 0, 0, 0, 0, 1, 0, 0, 4, 0, 0, /* places 3 to 6: N = 12, b = 4 */
+    1, 2, 0, 5, 0, 0, 0, 0, 0, 0, 1, 0, 0, 2, 0, 0, /* places 7 and 8: N = 2, b = 1 */
+};
+static const uint8_t foreign_records[] = {
+    RECORD(0, 0, 1, 5),          RECORD(0, 1, 1, 5),  RECORD(0, 1, 1, 3),   RECORD(1, 2, 1, 17),
+    RECORD(1, 0, 1, 17),         RECORD(1, 0, 1, 17), RECORD(2, 1, 1, 4),   RECORD(3, 0, 1, 4),
+    RECORD(3, 1, 1, 4),          RECORD(4, 1, 1, 0),  RECORD(4, 0, 1, 0),   RECORD(4, 1, 1, 1),
+    RECORD(5, 3, 1, 5),          RECORD(5, 1, 1, 13), RECORD(5, 33, 1, 13), RECORD(5, 255, 1, 5),
+    RECORD(6, 2, 9, 0xffffffff), RECORD(7, 2, 1, 2),  RECORD(7, 1, 1, 1),   RECORD(8, 0, 1, 0),
+    RECORD(8, 1, 1, 1),          RECORD(9, 3, 1, 1),
+};
+static const char foreign_text[] = "0 sound 0 1 0 -1\n"
+                                   "1 sound 0 -2 0 0\n"
+                                   "2 missing 0 0 0 0\n"
+                                   "3 sound 0 2 1\n"
+                                   "4 contested 0 0 0\n"
+                                   "5 mended 0 2 -1\n"
+                                   "6 missing 0 0 0\n"
+                                   "7 unreadable 14 0\n"
+                                   "8 missing 0 0\n"
+                                   "tally 3 1 3 1 1 14\n";
 
 static const struct stored_case cases[] = {
     {"whole_case", BYTES(whole_table), BYTES(whole_records), "0 sound 0 1 0 -1\n1 mended 0 0 -1 1\ntally 1 1 0 0 0 0\n"},
@@ -75,6 +103,7 @@ static const struct stored_case cases[] = {
      "0 sound 0 1 0 -1\n1 missing 0 0 0 0\n2 missing 0 0 0\n3 sound 0 -3 0\ntally 2 0 2 0 0 2\n"},
     {"strangers", BYTES(two_rows), BYTES(strangers),
      "0 sound 0 1 0 -1\n1 missing 0 0 0 0\n2 missing 0 0 0\n3 sound 0 -3 0\ntally 2 0 2 0 0 8\n"},
+    {"foreign_rows", BYTES(foreign_table), BYTES(foreign_records), foreign_text},
     {"zero_record", BYTES(whole_table), BYTES(zero_record), "0 sound 0 0 0 0\n1 missing 0 0 0 0\ntally 1 0 1 0 0 0\n"},
     {"one_order", BYTES(eleven_places), BYTES(one_order), text_of_any_order},
 };

@@ -1,25 +1,37 @@
-/* What came for each place of a table. The page is not made step by step: of all that came for a place the first record
-   is kept, and whether any other differs from it, so that the order plays no part. See docs/RULES.md, "The page" and
+/* What came for each place of a table. The page is not made step by step: of all that claim a place the first record is
+   kept, and whether any other differs from it, so that the order plays no part. See docs/RULES.md, "The page" and
    "Listing program". */
 
 #include "../listing.h"
 
 #include <string.h>
 
-void begin_gathering(struct gathering *to, uint64_t places)
+/* The table must be good. */
+void begin_gathering(struct gathering *to, const struct table *table)
 {
-    *to = (struct gathering){.places = places};
+    *to = (struct gathering){.places = judge(table->bytes, table->size).places};
+    for (uint64_t place = 0; place < to->places; place++)
+        to->came[place].row = row_of(table, place);
 }
 
-/* One part of a capture. "A record of 8 bytes claims the place in its first two bytes if the table has that place";
-   any other part is a refused take. */
+/* "A record of 8 bytes claims the place in its first two bytes if the table has that place, and if the record's row is
+   the row of that place." */
+static int claims_place(const struct gathering *of, const uint8_t *part, uint64_t size)
+{
+    if (size != RECORD_SIZE)
+        return 0;
+    const uint64_t place = two_bytes(part + AT_PLACE);
+    return place < of->places && part[AT_ROW] == of->came[place].row;
+}
+
+/* One part of a capture. What claims no place is a refused take. */
 void gather(struct gathering *to, const uint8_t *part, uint64_t size)
 {
-    const uint64_t place = size == RECORD_SIZE ? two_bytes(part + AT_PLACE) : to->places;
-    if (place >= to->places) {
+    if (!claims_place(to, part, size)) {
         to->refused++;
         return;
     }
+    const uint64_t place = two_bytes(part + AT_PLACE);
     uint8_t *first = to->came[place].first;
     for (int i = 0; i < RECORD_SIZE && to->came[place].claims == 0; i++)
         first[i] = part[i];

@@ -4,14 +4,6 @@
 
 #include <stdio.h>
 
-static const char *const words[READINGS] = {
-    [SOUND] = "sound",
-    [MENDED] = "mended",
-    [MISSING] = "missing",
-    [CONTESTED] = "contested",
-    [UNREADABLE] = "unreadable",
-};
-
 /* The column "what is written" under "Reading a place". */
 void point_shown(struct reading reading, int32_t *point)
 {
@@ -26,7 +18,7 @@ static void print_place(uint64_t place, struct reading reading, uint64_t length)
 {
     int32_t point[MOST_LENGTH];
     point_shown(reading, point);
-    printf("%lu %s %lu", place, words[reading.word], reading.reason);
+    printf("%lu %s %lu", place, reading_words[reading.word], reading.reason);
     for (uint64_t i = 0; i < length; i++)
         printf(" %d", point[i]);
     printf("\n");

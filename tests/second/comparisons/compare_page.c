@@ -1,63 +1,18 @@
 /* One comparison of take, or of collect, with the rules in rules/page.c. What a call is lent lies among guards, and
    every byte of it is compared afterwards: only the page may change, and only as those rules say. */
 
+#include "../kinds/lent_calls.h"
 #include "../kinds/page_kinds.h"
 #include "comparisons.h"
 
 #include <stdio.h>
-#include <stdlib.h>
-
-/* Any item, past the end of every list or not. */
-uint64_t any_item(void)
-{
-    const uint64_t items[] = {ITEMS, ITEMS + 1, 256, 65536, TWO_TO_32, TWO_TO_32 + 1, TWO_TO_63, UINT64_MAX};
-    return chance_below(2) ? chance_below(ITEMS) : items[chance_below(ENTRIES(items))];
-}
-
-uint64_t item_of(struct list list, uint64_t which)
-{
-    return which < ITEMS ? list.items[which] : 0;
-}
-
-/* The call was printed before. */
-void wrong_item(struct list expected, uint64_t which, uint64_t got)
-{
-    const uint64_t item = item_of(expected, which);
-    if (which == 0)
-        differ(item ? REFUSED + item : 0, got ? REFUSED + got : 0);
-    printf(", item %lu of its list: expected %lu, got %lu\n", which, item, got);
-    exit(1);
-}
-
-/* A call of take with each copy of the page. What has no bytes is lent as a null pointer where `by_null` says so. */
-static void call_take(const struct taking *taking, int by_null)
-{
-    const struct arrival *arrival = taking->arrival;
-    struct table_room table = table_among_guards(taking->table);
-    struct arrival_room room = arrival_among_guards(arrival);
-    struct page *page = taking->page;
-    for (int lent = 0; lent < 2; lent++) {
-        const uint64_t which = lent == 0 ? 0 : chance_below(2) ? 1 : any_item();
-        const uint64_t got = probe_take(by_null && taking->table->size == 0 ? 0 : table.bytes, taking->table->size,
-                                        by_null && page->size == 0 ? 0 : page->lent[lent] + GUARDS, page->size,
-                                        by_null && arrival->length == 0 ? 0 : room.bytes, arrival->length, which);
-        if (got != item_of(taking->expected, which)) {
-            print_taking("probe_take", taking);
-            wrong_item(taking->expected, which, got);
-        }
-        compare_taking("probe_take", taking, lent, &table, &room);
-        compared.calls_of_page++;
-    }
-}
 
 struct list compare_take(const struct table *table, struct page *page, const struct arrival *arrival)
 {
     uint8_t before[CELL_SIZE];
-    copy_claimed(page, arrival, before);
+    copy_named(page, arrival, before);
     const struct taking taking = {table, page, arrival, before, take(table, page, arrival)};
-    call_take(&taking, 0);
-    if (table->size == 0 || page->size == 0 || arrival->length == 0)
-        call_take(&taking, 1);
+    compared.calls_of_page += expect_take("probe_take", probe_take, &taking);
     note_take(table, page, arrival, before, taking.expected);
     note(as_answer((uint32_t)taking.expected.items[0]), &compared.takes);
     return taking.expected;

@@ -8,11 +8,6 @@
 #include "../probe.h"
 #include "../rules/sending.h"
 
-/* A lent point among guards: it begins at cells + GUARDS. */
-struct point_room {
-    int32_t cells[GUARDS + MOST_LENT + GUARDS];
-};
-
 /* compare.c: one comparison each; an expected answer may be REFUSED and a refusal number */
 struct comparisons {
     uint64_t counts;
@@ -40,18 +35,11 @@ void expect_check_without_table(void);
 void read_point(struct shell shell, uint64_t index, int32_t *point);
 _Noreturn void wrong_point(struct shell shell, uint64_t index, const int32_t *point, const char *what);
 void note(uint64_t expected, uint64_t *kind);
-struct point_room garbage(void);
-struct point_room garbage_around(const int32_t *point, uint64_t length);
-int same_points(const struct point_room *one, const struct point_room *other);
-void print_point(const char *what, const int32_t *point, uint64_t length);
 
 /* compare_record.c: one comparison of quantize */
 void expect_quantize(const struct vector *vector, const struct answer *expected);
 
 /* compare_page.c: one comparison of take or collect with the rules of the page, whose answer is returned */
-uint64_t any_item(void);
-uint64_t item_of(struct list list, uint64_t which);
-_Noreturn void wrong_item(struct list expected, uint64_t which, uint64_t got);
 struct list compare_take(const struct table *table, struct page *page, const struct arrival *arrival);
 uint64_t compare_run(const struct table *table, struct page *page, const struct arrival *run);
 

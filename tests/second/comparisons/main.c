@@ -6,10 +6,10 @@
 
 #include <stdio.h>
 
-/* 9 and 10 are reasons of an unreadable place: no call refuses with them. */
+/* 10 is a reason of an unreadable place: no call refuses with it. */
 static void print_compared(void)
 {
-    const int refusals[] = {1, 2, 3, 4, 5, 6, 7, 8, 11, 12, 13};
+    const int refusals[] = {1, 2, 3, 4, 5, 6, 7, 8, 9, 11, 12, 13};
     printf("refused:");
     for (uint64_t i = 0; i < ENTRIES(refusals); i++)
         printf("%s %lu with %d", i > 0 ? "," : "", compared.refusals[refusals[i]], refusals[i]);

@@ -31,7 +31,7 @@ static uint64_t tally_of(const struct case_of_page *of)
     return compare_tally(&of->table, &page).items[0];
 }
 
-/* The order of each call, as "take | 7, 4, 8, 12". Take is last: it may change the page. */
+/* The order of each call, as "take | 7, 4, 8, 9, 12". Take is last: it may change the page. */
 static void compare_set(const struct case_of_page *wrong, int set)
 {
     const uint64_t cell = set & WRONG_CELL ? 12 : 0, cell_or_13 = set & WRONG_COORDINATE ? 13 : cell;
@@ -85,7 +85,9 @@ static void compare_bad_tables(void)
         of.out_length = is_wrong ? chance_below(MOST_OUTPUT + 1) : of.table.bytes[AT_LENGTH] % (MOST_LENGTH + 1);
         of.coordinate = is_wrong ? wrong_place(MOST_LENGTH) : 0;
         of.arrival.length = is_wrong ? chance_below(MOST_TAKEN + 1) : RECORD_SIZE;
-        set_two_bytes(of.arrival.bytes + AT_PLACE, of.place % 65536);
+        set_place(&of.table, of.place % 65536, of.arrival.bytes);
+        if (i % 4 > 1)
+            of.arrival.bytes[AT_ROW] = (uint8_t)chance_below(256);
         compare_all_calls(&of);
     }
 }
@@ -97,6 +99,7 @@ static void compare_sizes(void)
     const uint64_t cut[] = {65536 + 16, 65536 + 512, TWO_TO_32 + 16, TWO_TO_32 + 512};
     struct case_of_page of = right_case(&page, rows_by_chance(MOST_ROWS, 3));
     of.table = rows_by_chance(MOST_LENT_ROWS, 3);
+    set_place(&of.table, of.place, of.arrival.bytes);
     for (uint64_t i = 0; i <= MOST_SIZE + ENTRIES(cut); i++) {
         of.table.size = i <= MOST_SIZE ? i : cut[i - MOST_SIZE - 1];
         const struct judgment judgment = judge(of.table.bytes, of.table.size);

@@ -12,25 +12,28 @@
 enum { TABLES = 1500, RUNS_OF_TABLE = 8, FEW = 3, MOST_CHECKED = 200, LONG_RUNS = 2, PIECES = 2700 };
 
 /* What the parts of a run are. */
-enum manner { CLEAN, MIXED, OUTSIDE, MANNERS };
+enum manner { CLEAN, MIXED, OUTSIDE, OF_OTHER_ROWS, MANNERS };
 
 static struct page page, start, first;
 
-/* The part at the end of a run: one that was there before, the same but for one byte, one that is not in the table, any
-   bytes, or a record that claims one of few places. */
+/* The part at the end of a run: one that was there before, the same but for one byte behind the row, one that is not in
+   the table, any bytes, one of another row, or a record that claims one of few places. */
 static void part_by_chance(const struct table *table, const uint64_t *places, enum manner manner, uint8_t *run, uint64_t at)
 {
-    const uint64_t choice = manner == OUTSIDE ? 6 : chance_below(manner == CLEAN ? 6 : 8);
+    const uint64_t choices[MANNERS] = {[CLEAN] = chance_below(6), [MIXED] = chance_below(10), [OUTSIDE] = 6, [OF_OTHER_ROWS] = 8};
+    const uint64_t choice = choices[manner], place = places[chance_below(FEW)];
     const uint64_t before = at > 0 ? chance_below(at / RECORD_SIZE) * RECORD_SIZE : 0;
-    record_by_chance(table, places[chance_below(FEW)], run + at);
+    record_by_chance(table, place, run + at);
     for (uint64_t i = 0; i < RECORD_SIZE && at > 0 && choice < 3; i++)
         run[at + i] = run[before + i];
     if (at > 0 && choice == 0)
-        run[at + AT_ROW + chance_below(RECORD_SIZE - AT_ROW)] ^= (uint8_t)(1 + chance_below(255));
+        run[at + AT_RADIUS_NUMBER + chance_below(RECORD_SIZE - AT_RADIUS_NUMBER)] ^= (uint8_t)(1 + chance_below(255));
     if (choice == 6)
         set_two_bytes(run + at + AT_PLACE, place_past_end(page.places));
     for (uint64_t i = 0; i < RECORD_SIZE && choice == 7; i++)
         run[at + i] = (uint8_t)chance_below(256);
+    if (choice > 7)
+        run[at + AT_ROW] = foreign_row(table, place);
 }
 
 /* The bytes are drawn up to the next whole part. */
@@ -45,12 +48,13 @@ static struct arrival run_of(const struct table *table, enum manner manner, uint
     return run;
 }
 
-/* A clean run has whole parts alone. */
+/* A clean run has whole parts alone, and so has one of other rows. */
 static struct arrival run_by_chance(const struct table *table)
 {
     const enum manner manner = (enum manner)chance_below(MANNERS);
     const uint64_t length = chance_below(8) ? chance_below(MOST_RUN + 1) : chance_below(2 * RECORD_SIZE + 1);
-    return run_of(table, manner, manner == CLEAN ? length - length % RECORD_SIZE : length);
+    const int is_whole = manner == CLEAN || manner == OF_OTHER_ROWS;
+    return run_of(table, manner, is_whole ? length - length % RECORD_SIZE : length);
 }
 
 /* The whole parts in another order, the shorter last one where it was. */
@@ -70,13 +74,13 @@ static struct arrival in_another_order(const struct arrival *run)
 
 /* What a run makes of an empty place, by all that claim it together: nothing claims it; all that do are equal; or two
    differ. The program's own rules are held to it. */
-static void check_place(const struct arrival *run, uint64_t place)
+static void check_place(const struct table *table, const struct arrival *run, uint64_t place)
 {
     const uint8_t *claims = 0;
     uint8_t cell[CELL_SIZE] = {0};
     int differ = 0;
     for (const uint8_t *part = run->bytes; part + RECORD_SIZE <= run->bytes + run->length; part += RECORD_SIZE)
-        if (two_bytes(part + AT_PLACE) == place) {
+        if (two_bytes(part + AT_PLACE) == place && part[AT_ROW] == row_of(table, place)) {
             claims = claims ? claims : part;
             differ |= memcmp(claims, part, RECORD_SIZE) != 0;
         }
@@ -92,7 +96,7 @@ static void compare_both_orders(const struct table *table, const struct arrival 
     copy_page(&page, &start);
     const uint64_t refusals = compare_run(table, &page, run);
     for (uint64_t place = 0; is_from_empty && place < page.places && page.places <= MOST_CHECKED; place++)
-        check_place(run, place);
+        check_place(table, run, place);
     copy_page(&first, &page);
     copy_page(&page, &start);
     const struct arrival other = in_another_order(run);
@@ -132,7 +136,7 @@ static void compare_long_run(void)
     uint64_t refusals = 0;
     begin_page(&page, judge(table.bytes, table.size).places);
     for (int i = 0; i < PIECES; i++) {
-        const struct arrival piece = run_of(&table, i % 64 ? OUTSIDE : CLEAN, MOST_RUN);
+        const struct arrival piece = run_of(&table, i % 64 == 0 ? CLEAN : i % 2 ? OUTSIDE : OF_OTHER_ROWS, MOST_RUN);
         refusals += collect(&table, &page, &piece);
         for (int j = 0; j < MOST_RUN; j++)
             bytes[i * MOST_RUN + j] = piece.bytes[j];

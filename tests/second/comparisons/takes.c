@@ -1,5 +1,5 @@
 /* Taking records by chance into pages of good tables: into cells of every state, records that are held already,
-   that differ in one byte or in several, that are not in the table, and lengths that are wrong. See
+   that differ in one byte or in several, that are of another row or not in the table, and lengths that are wrong. See
    docs/RULES.md, "The page". */
 
 #include "../draws/page_draws.h"
@@ -7,7 +7,7 @@
 
 #include <stdio.h>
 
-enum { TABLES = 2500, TAKES_OF_TABLE = 400 };
+enum { TABLES = 2500, TAKES_OF_TABLE = 480 };
 
 static struct page page;
 

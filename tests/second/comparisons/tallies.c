@@ -34,12 +34,12 @@ static void compare_alike(enum reading_word word)
     compare_tally(&table, &page);
 }
 
-static void spoil_place(uint64_t place)
+static void spoil_place(const struct table *table, uint64_t place)
 {
     uint8_t cell[CELL_SIZE];
     for (int i = 0; i < CELL_SIZE; i++)
         cell[i] = cell_at(&page, place)[i];
-    spoil_cell(place, cell);
+    spoil_cell(table, place, cell);
     set_cell(&page, place, cell);
 }
 
@@ -49,12 +49,12 @@ static void compare_with_faults(const struct table *table)
 {
     page_by_chance(&page, table, 0);
     compare_tally(table, &page);
-    spoil_place(chance_below(4) ? some_place(table) : page.places - 1);
+    spoil_place(table, chance_below(4) ? some_place(table) : page.places - 1);
     compare_tally(table, &page);
     page.size = wrong_page_size(&page);
     compare_tally(table, &page);
     page.size = CELL_SIZE * page.places;
-    spoil_place(chance_below(4) ? some_place(table) : 0);
+    spoil_place(table, chance_below(4) ? some_place(table) : 0);
     compare_tally(table, &page);
 }
 

@@ -100,18 +100,33 @@ static void spoil_radius_number(const uint8_t *row, uint8_t *record)
         record[i] = 0;
 }
 
-/* A record that claims a place of a good table. Its row or its radius number, or both, are at times wrong. */
+/* A record that claims a place of a good table. Its radius number is at times not in the row. */
 void record_by_chance(const struct table *table, uint64_t place, uint8_t *record)
 {
-    const uint64_t row = row_of(table, place), others[] = {row + 1, row + 255, other_than(row, 255), 255 - row};
     const uint8_t *fields = row_at(table, place);
-    const uint64_t number = chance_below(fields[AT_NUMBER_OF_RADII]), faults = chance_below(16);
+    const uint64_t number = chance_below(fields[AT_NUMBER_OF_RADII]);
     const struct shell shell = {fields[AT_LENGTH], fields[AT_RADII + number]};
-    write_record(record, place, row, number, codeword_by_chance(shell));
-    if (faults < 3)
-        record[AT_ROW] = (uint8_t)others[chance_below(ENTRIES(others))];
-    if (faults == 0 || faults == 3 || faults == 4)
+    write_record(record, place, row_of(table, place), number, codeword_by_chance(shell));
+    if (chance_below(8) == 0)
         spoil_radius_number(fields, record);
+}
+
+/* Gives a record a place, and the row of that place. */
+void set_place(const struct table *table, uint64_t place, uint8_t *record)
+{
+    set_two_bytes(record + AT_PLACE, place);
+    record[AT_ROW] = (uint8_t)row_of(table, place);
+}
+
+/* Another row than that of a place: a neighbour, often the one that begins behind the place; one of the table; or one
+   that is the same in its low bits, or in all bits but one. */
+uint8_t foreign_row(const struct table *table, uint64_t place)
+{
+    const uint64_t row = row_of(table, place), rows = table->size / ROW_SIZE, next = row_of(table, place + 1);
+    const uint64_t any = other_than(row, 255), of_table = rows > 1 ? other_than(row, rows - 1) : any;
+    const uint64_t beside = row < next && next < rows ? next : row + 255, bit = (uint64_t)1 << chance_below(8);
+    const uint64_t others[] = {row + 1, row + 255, beside, of_table, row + MOST_ROWS * (1 + chance_below(7)), row ^ bit, any};
+    return (uint8_t)others[chance_below(ENTRIES(others))];
 }
 
 /* A cell that is not at fault: empty or contested, with zeros or not, or held. */
@@ -125,22 +140,32 @@ void cell_by_chance(const struct table *table, uint64_t place, uint8_t *cell)
         cell[i] = is_zeros ? 0 : (uint8_t)chance_below(256);
 }
 
-/* Makes a cell be at fault: another state, or held with a place number of which the high byte, the low byte or
-   both are changed. */
-void spoil_cell(uint64_t place, uint8_t *cell)
+/* Gives a record a place number of which the high byte, the low byte or both are changed. */
+static void spoil_place_number(uint8_t *record)
+{
+    const uint64_t changed = 1 + chance_below(3);
+    if (changed != 1)
+        record[AT_PLACE] ^= (uint8_t)(chance_below(2) ? 1 : 1 + chance_below(255));
+    if (changed != 2)
+        record[AT_PLACE + 1] ^= (uint8_t)(chance_below(2) ? 1 : 1 + chance_below(255));
+}
+
+/* Makes a cell be at fault: another state, or held with another place, another row, or both. */
+void spoil_cell(const struct table *table, uint64_t place, uint8_t *cell)
 {
     const uint8_t states[] = {3, 4, 127, 128, 129, 130, 254, 255};
-    const uint64_t changed = 1 + chance_below(3);
-    if (chance_below(2)) {
+    const uint64_t choice = chance_below(10);
+    uint8_t *record = cell + AT_RECORD;
+    if (choice < 3) {
         cell[AT_STATE] = chance_below(4) ? (uint8_t)(3 + chance_below(253)) : states[chance_below(ENTRIES(states))];
         return;
     }
     cell[AT_STATE] = STATE_HELD;
-    set_two_bytes(cell + AT_RECORD + AT_PLACE, place);
-    if (changed != 1)
-        cell[AT_RECORD + AT_PLACE] ^= (uint8_t)(chance_below(2) ? 1 : 1 + chance_below(255));
-    if (changed != 2)
-        cell[AT_RECORD + AT_PLACE + 1] ^= (uint8_t)(chance_below(2) ? 1 : 1 + chance_below(255));
+    set_place(table, place, record);
+    if (choice < 6)
+        spoil_place_number(record);
+    if (choice > 4)
+        record[AT_ROW] = foreign_row(table, place);
 }
 
 /* Gives a place a new cell, of which one in so many is at fault; none for 0. */
@@ -149,7 +174,7 @@ void draw_cell(struct page *page, const struct table *table, uint64_t place, uin
     uint8_t cell[CELL_SIZE];
     cell_by_chance(table, place, cell);
     if (one_bad_in > 0 && chance_below(one_bad_in) == 0)
-        spoil_cell(place, cell);
+        spoil_cell(table, place, cell);
     set_cell(page, place, cell);
 }
 
@@ -161,12 +186,14 @@ void page_by_chance(struct page *page, const struct table *table, uint64_t one_b
         draw_cell(page, table, place, one_bad_in);
 }
 
-/* A record that claims a place: what its cell has, the same but for one byte, or any. */
+/* A record for a place: what its cell has, the same but for one byte, or any. Its row is mostly that of the place, and
+   else another one, or what it has come to be. */
 struct arrival arrival_by_chance(const struct table *table, const struct page *page, uint64_t place)
 {
     struct arrival arrival = {.length = RECORD_SIZE};
     const uint8_t *record = cell_at(page, place) + AT_RECORD;
     const uint64_t choice = chance_below(8), byte = AT_ROW + chance_below(RECORD_SIZE - AT_ROW), bit = chance_below(8);
+    const uint64_t row = chance_below(16);
     for (uint64_t i = 0; i < RECORD_SIZE; i++)
         arrival.bytes[i] = record[i];
     if (choice < 3)
@@ -174,6 +201,10 @@ struct arrival arrival_by_chance(const struct table *table, const struct page *p
     if (choice > 4)
         record_by_chance(table, place, arrival.bytes);
     set_two_bytes(arrival.bytes + AT_PLACE, place);
+    if (row < 2)
+        arrival.bytes[AT_ROW] = foreign_row(table, place);
+    if (row > 3)
+        set_place(table, place, arrival.bytes);
     return arrival;
 }
 

@@ -6,8 +6,18 @@
 #include "../rules/page.h"
 #include "draws.h"
 
-/* What is wrong with a call, as the bits of a set. The length is that of the record, or of the output. */
-enum { WRONG_TABLE = 1, WRONG_PLACE = 2, WRONG_PAGE = 4, WRONG_LENGTH = 8, WRONG_COORDINATE = 16, WRONG_CELL = 32, SETS = 64 };
+/* What is wrong with a call, as the bits of a set. The length is that of the record, or of the output; the row is that
+   of the record alone. */
+enum {
+    WRONG_TABLE = 1,
+    WRONG_PLACE = 2,
+    WRONG_PAGE = 4,
+    WRONG_LENGTH = 8,
+    WRONG_COORDINATE = 16,
+    WRONG_CELL = 32,
+    WRONG_ROW = 64,
+    SETS = 128
+};
 
 /* All that the calls are asked about one place. */
 struct case_of_page {
@@ -27,8 +37,10 @@ void plant_shell(struct table *table, uint64_t row, struct shell shell);
 enum { CODEWORDS_BESIDE = 8 };
 uint64_t codeword_beside(struct shell shell, uint64_t number);
 void record_by_chance(const struct table *table, uint64_t place, uint8_t *record);
+void set_place(const struct table *table, uint64_t place, uint8_t *record);
+uint8_t foreign_row(const struct table *table, uint64_t place);
 void cell_by_chance(const struct table *table, uint64_t place, uint8_t *cell);
-void spoil_cell(uint64_t place, uint8_t *cell);
+void spoil_cell(const struct table *table, uint64_t place, uint8_t *cell);
 void draw_cell(struct page *page, const struct table *table, uint64_t place, uint64_t one_bad_in);
 void page_by_chance(struct page *page, const struct table *table, uint64_t one_bad_in);
 struct arrival arrival_by_chance(const struct table *table, const struct page *page, uint64_t place);

@@ -24,7 +24,7 @@ static struct case_of_page with_faults(const struct case_of_page *right, struct 
     for (int i = 0; i < CELL_SIZE; i++)
         cell[i] = kept[i];
     if (set & WRONG_CELL)
-        spoil_cell(right->place, cell);
+        spoil_cell(&right->table, right->place, cell);
     set_cell(page, right->place, cell);
     page->size = set & WRONG_PAGE ? wrong_page_size(page) : CELL_SIZE * page->places;
     if (set & WRONG_LENGTH) {
@@ -33,6 +33,8 @@ static struct case_of_page with_faults(const struct case_of_page *right, struct 
     }
     if (set & WRONG_COORDINATE)
         wrong.coordinate = chance_below(2) ? right->out_length : MOST_LENGTH + chance_below(UINT64_MAX - MOST_LENGTH);
+    if (set & WRONG_ROW)
+        wrong.arrival.bytes[AT_ROW] = foreign_row(&right->table, right->place);
     if (set & WRONG_PLACE) {
         wrong.place = wrong_place(page->places);
         set_two_bytes(wrong.arrival.bytes + AT_PLACE, place_past_end(page->places));
@@ -56,13 +58,15 @@ void for_each_set(struct page *page, visit_set *visit)
     }
 }
 
-/* The rest of the cell is as it was. */
+/* The rest of the cell is as it was; in every other table it has another row. */
 void for_each_state(struct page *page, visit_case *visit)
 {
     for (int i = 0; i < STATE_TABLES; i++) {
         const struct case_of_page right = right_case(page, small_table_by_chance());
         uint8_t cell[CELL_SIZE];
         record_by_chance(&right.table, right.place, cell + AT_RECORD);
+        if (i % 2)
+            cell[AT_RECORD + AT_ROW] = foreign_row(&right.table, right.place);
         for (int state = 0; state < 256; state++) {
             cell[AT_STATE] = (uint8_t)state;
             set_cell(page, right.place, cell);
@@ -71,12 +75,14 @@ void for_each_state(struct page *page, visit_case *visit)
     }
 }
 
-/* "take | 7, 4, 8, 12", told from the faults alone. */
+/* "take | 7, 4, 8, 9, 12", told from the faults alone. */
 uint64_t refusal_of_take(int set)
 {
     if (set & WRONG_TABLE)
         return 7;
     if (set & (WRONG_PAGE | WRONG_LENGTH))
         return 4;
-    return set & WRONG_PLACE ? 8 : set & WRONG_CELL ? 12 : 0;
+    if (set & WRONG_PLACE)
+        return 8;
+    return set & WRONG_ROW ? 9 : set & WRONG_CELL ? 12 : 0;
 }

@@ -13,6 +13,11 @@ struct table_room {
     uint8_t back[GUARDS];
 };
 
+/* A lent point among guards: it begins at cells + GUARDS. */
+struct point_room {
+    int32_t cells[GUARDS + MOST_LENT + GUARDS];
+};
+
 /* What arrives, among guards; what of `bytes` is beyond its length guards it too. */
 struct arrival_room {
     uint8_t front[GUARDS];
@@ -40,13 +45,19 @@ void print_table(const char *call, const struct table *table);
 _Noreturn void differ(uint64_t expected, uint64_t got);
 _Noreturn void end(const char *last_words);
 
+/* lent_point.c: a point among guards */
+struct point_room garbage(void);
+struct point_room garbage_around(const int32_t *point, uint64_t length);
+int same_points(const struct point_room *one, const struct point_room *other);
+void print_point(const char *what, const int32_t *point, uint64_t length);
+
 /* lent_page.c: a page after a call */
 int is_page_as_it_must_be(const struct page *page, int lent);
 _Noreturn void wrong_page(const struct page *page, int lent);
 
 /* lent_take.c: what take, or collect, is lent, and what it must be afterwards */
 struct arrival_room arrival_among_guards(const struct arrival *arrival);
-void copy_claimed(const struct page *page, const struct arrival *arrival, uint8_t *cell);
+void copy_named(const struct page *page, const struct arrival *arrival, uint8_t *cell);
 void print_taking(const char *call, const struct taking *taking);
 void compare_taking(const char *call, const struct taking *taking, int lent, const struct table_room *table,
                     const struct arrival_room *arrival);

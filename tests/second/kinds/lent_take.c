@@ -16,8 +16,8 @@ struct arrival_room arrival_among_guards(const struct arrival *arrival)
     return room;
 }
 
-/* The cell that a record claims, zeros where there is none. */
-void copy_claimed(const struct page *page, const struct arrival *arrival, uint8_t *cell)
+/* The cell of the place that a record names, zeros where there is none. */
+void copy_named(const struct page *page, const struct arrival *arrival, uint8_t *cell)
 {
     const uint64_t place = two_bytes(arrival->bytes + AT_PLACE);
     for (uint64_t i = 0; i < CELL_SIZE; i++)

@@ -11,8 +11,8 @@
 enum { LEAST = 300, LEAST_OF_EACH = 100, RECORD_LENGTHS = MOST_TAKEN + 1 };
 
 /* What a kind is wanted for, as the bits of a set. */
-enum { T = 1 << TAKE, C = 1 << COLLECT, R = 1 << READ, K = 1 << COEFFICIENT, Y = 1 << TALLY, S = 1 << STORED };
-enum { RK = R | K, TRK = T | RK, TRKY = TRK | Y, TCRKY = TRKY | C, TRKYS = TRKY | S };
+enum { T = 1 << TAKE, C = 1 << COLLECT, R = 1 << READ, K = 1 << COEFFICIENT, Y = 1 << TALLY, S = 1 << STORED, F = 1 << FOREIGN };
+enum { RK = R | K, TRK = T | RK, TRKY = TRK | Y, TCRKY = TRKY | C, TRKYS = TRKY | S, TRKYF = TRKY | F };
 
 static const char *const calls[COUNTED_FOR] = {
     [TAKE] = "takes",
@@ -21,6 +21,7 @@ static const char *const calls[COUNTED_FOR] = {
     [COEFFICIENT] = "coefficients",
     [TALLY] = "tallies",
     [STORED] = "stored records",
+    [FOREIGN] = "takes refused with 9",
 };
 
 static const struct {
@@ -29,9 +30,6 @@ static const struct {
 } names[PAGE_KINDS] = {
     [CELL_SOUND] = {TRKYS, "with a sound cell"},
     [CELL_MENDED] = {TRKYS, "with a mended cell"},
-    [CELL_9] = {TRKYS, "with a cell that only has another row"},
-    [CELL_9_AND_10] = {TRKYS, "with a cell of another row and no radius number of the row"},
-    [CELL_9_AND_14] = {TRKYS, "with a cell of another row and a codeword of 2^b or more"},
     [CELL_10_AT_NUMBER] = {TRKYS, "with a radius number that is the number of radii"},
     [CELL_10_AND_0] = {TRKYS, "with a radius number below 8 that is not in the row, and codeword 0"},
     [CELL_10_FROM_8] = {TRKYS, "with a radius number of 8 or more"},
@@ -53,12 +51,26 @@ static const struct {
     [EMPTY_GARBAGE] = {TRKY, "with an empty cell that has other bytes"},
     [CONTESTED_ZEROS] = {TRKY, "with a contested cell of zeros"},
     [CONTESTED_GARBAGE] = {TRKY, "with a contested cell that has other bytes"},
+    [EMPTY_OTHER_ROW] = {TRKY, "with an empty cell that has another row"},
+    [CONTESTED_OTHER_ROW] = {TRKY, "with a contested cell that has another row"},
     [FAULT_STATE] = {TRKY, "with a state above 2"},
-    [FAULT_HIGH] = {TRKY, "with a held place number whose high byte alone differs"},
-    [FAULT_LOW] = {TRKY, "with a held place number whose low byte alone differs"},
-    [FAULT_BOTH] = {TRKY, "with a held place number that differs in both bytes"},
+    [FAULT_HIGH] = {TRKY, "with a held place number whose high byte alone differs, and the place's row"},
+    [FAULT_LOW] = {TRKY, "with a held place number whose low byte alone differs, and the place's row"},
+    [FAULT_BOTH] = {TRKY, "with a held place number that differs in both bytes, and the place's row"},
+    [FAULT_PLACE_AND_ROW] = {TRKY, "with a held record of another place and another row"},
+    [OTHER_ROW_ALONE] = {TRKYF, "with a record of another row that would be sound in the place's"},
+    [OTHER_ROW_AND_10] = {TRKYF, "with a record of another row and no radius number of the place's"},
+    [OTHER_ROW_AND_14] = {TRKYF, "with a record of another row and a codeword of 2^b or more in the place's"},
+    [ROW_BEFORE] = {TRKYF, "with a record of the row before"},
+    [ROW_BEHIND] = {TRKYF, "with a record of the row behind"},
+    [ROW_BEFORE_AT_FIRST] = {TRKYF, "with a record of the row before at the first place of a row"},
+    [ROW_BEHIND_AT_LAST] = {TRKYF, "with a record of the row behind at the last place of a row"},
+    [ROW_IN_LOW_BITS] = {TRKYF, "with a record of a row that is the place's in its low 5 bits"},
+    [NO_ROW_OF_TABLE] = {TRKYF, "with a record of a row that is not in the table"},
     [AT_PLACE_0] = {TRK, "at place 0, answered"},
     [AT_LAST_PLACE] = {TRK, "at the last place, answered"},
+    [AT_FIRST_OF_ROW] = {TRK, "at the first place of a row above 0, answered"},
+    [AT_LAST_OF_ROW] = {TRK, "at the last place of a row that is not the last, answered"},
     [AT_PAST_255] = {TRK, "at a place above 255, answered"},
     [OF_1_PLACE] = {TRKY, "of a table of one place, answered"},
     [OF_4096_PLACES] = {TRKY, "of a table of 4,096 places, answered"},
@@ -67,10 +79,16 @@ static const struct {
     [SAME_STAYS] = {T, "of the same eight bytes as are held"},
     [OTHER_IN_SEVERAL] = {T, "that differ from what is held in several bytes"},
     [FAULT_SAME_REST] = {T, "refused with 12 that differ from what is held in the place number alone"},
+    [FAULT_SAME_BUT_ROW] = {T, "refused with 12 that differ from what is held in the row alone"},
+    [EMPTY_9] = {T, "refused with 9 at an empty cell"},
+    [CONTESTED_9] = {T, "refused with 9 at a contested cell"},
+    [HELD_SAME_BUT_ROW_9] = {T, "refused with 9 that differ from what is held in the row alone"},
+    [FAULT_SAME_9] = {T, "refused with 9 of the same eight bytes as are held"},
     [ANSWERED] = {TRKY, "that are not refused"},
     [REFUSED_7] = {TCRKY, "refused with 7"},
     [REFUSED_4] = {TCRKY, "refused with 4"},
     [REFUSED_8] = {TRK, "refused with 8"},
+    [REFUSED_9] = {T, "refused with 9"},
     [REFUSED_12] = {TRKY, "refused with 12"},
     [REFUSED_13] = {K, "refused with 13"},
     [ROW_0_NAMED] = {TRKY, "refused with 7 and row 0"},
@@ -82,6 +100,7 @@ static const struct {
     [NO_PAGE] = {TCRKY, "refused with 4 for a page of no bytes"},
     [PAGE_CUT] = {TCRKY, "refused with 4 for a page that is right only where its size is cut"},
     [OTHER_LENGTH] = {T | R, "refused with 4 for the record, or the output, alone"},
+    [OTHER_LENGTH_AND_ROW] = {T, "refused with 4 for the record alone, which has another row than the place's too"},
     [BOTH_LENGTHS] = {T | R, "refused with 4 for the page and for the record, or the output"},
     [AT_END] = {TRK, "refused with 8 at the number of places"},
     [FAR_PAST] = {RK, "refused with 8 at 2^63 or more"},
@@ -94,11 +113,15 @@ static const struct {
     [HELD_13] = {K, "refused with 13 at a held place"},
     [BOTH_7_AND_4] = {TRKY, "with a bad table and a page that is right for none"},
     [BOTH_7_AND_8] = {TRK, "with a bad table and a place above 4,095"},
+    [BOTH_7_AND_9] = {T, "with a bad table and a row above 31"},
     [BOTH_7_AND_13] = {K, "with a bad table and a coordinate above 15"},
     [BOTH_4_AND_8] = {TRK, "with a wrong length and a place that is not in the table"},
+    [BOTH_4_AND_9] = {T, "with a wrong length and another row than the place's"},
     [BOTH_4_AND_12] = {TRKY, "with a wrong length and a cell at fault"},
     [BOTH_4_AND_13] = {K, "with a wrong length and a coordinate of the length or more"},
+    [BOTH_8_AND_9] = {T, "with a place that is not in the table, and neither the last row nor the number behind it"},
     [BOTH_8_AND_13] = {K, "with a place that is not in the table and a coordinate above 15"},
+    [BOTH_9_AND_12] = {T, "with another row than the place's and a cell at fault"},
     [BOTH_12_AND_13] = {K, "with a cell at fault and a coordinate of the length or more"},
     [VALUE_POSITIVE] = {K, "with a value above 0"},
     [VALUE_NEGATIVE] = {K, "with a value below 0"},
@@ -115,12 +138,13 @@ static const struct {
     [RUN_TAKEN_AFTER_REFUSED] = {C, "in which a part is taken after a refused one"},
     [RUN_REPEATS] = {C, "with a record twice"},
     [RUN_PERMUTED] = {C, "in another order too"},
+    [RUN_ALL_9] = {C, "of several parts that are all refused with 9"},
+    [RUN_EMPTY_BESIDE_9] = {C, "with a part of another row for a place that is empty then"},
+    [RUN_HELD_BESIDE_9] = {C, "with a part of another row for a place that is held then"},
     [FAULT_AT_FIRST] = {Y, "refused with 12 at place 0"},
     [FAULT_AT_LAST] = {Y, "refused with 12 at the last place of several"},
     [FAULTS_SEVERAL] = {Y, "refused with 12 for several places"},
 };
-
-static const char *const words[READINGS] = {"sound", "mended", "missing", "contested", "unreadable"};
 
 static uint64_t kinds[COUNTED_FOR][PAGE_KINDS], faults[COUNTED_FOR][FAULTS], states[COUNTED_FOR][256];
 static uint64_t other_bytes[RECORD_SIZE], record_lengths[RECORD_LENGTHS], remainders[RECORD_SIZE];
@@ -190,23 +214,24 @@ static void require_readings(struct shell shell)
     }
 }
 
-/* The numbers that are counted for one call alone. */
+/* The numbers that are counted for one call alone. A record of another row is not taken. */
 static void require_numbers(enum page_call call)
 {
-    for (uint64_t i = AT_ROW; call == TAKE && i < RECORD_SIZE; i++)
+    for (uint64_t i = AT_RADIUS_NUMBER; call == TAKE && i < RECORD_SIZE; i++)
         require_number(other_bytes[i], LEAST, "takes of a record that differs from what is held only in byte", i);
     for (uint64_t i = 0; call == TAKE && i < RECORD_LENGTHS; i++)
         require_number(record_lengths[i], LEAST, "takes of a record of length", i);
     for (uint64_t i = 0; call == COLLECT && i < RECORD_SIZE; i++)
         require_number(remainders[i], LEAST, "runs whose last part has a length of, modulo 8,", i);
     for (int word = 0; call == TALLY && word < READINGS; word++) {
-        require(tallied[word], LEAST, "tallies with places that are", words[word]);
-        require(tallied_past_255[word], LEAST_OF_EACH, "tallies with more than 255 places that are", words[word]);
-        require(tallied_alone[word], LEAST, "tallies of places that are all", words[word]);
+        require(tallied[word], LEAST, "tallies with places that are", reading_words[word]);
+        require(tallied_past_255[word], LEAST_OF_EACH, "tallies with more than 255 places that are", reading_words[word]);
+        require(tallied_alone[word], LEAST, "tallies of places that are all", reading_words[word]);
     }
 }
 
-/* Ends the program unless each kind that is wanted for a call, or for stored records, was compared often enough. */
+/* Ends the program unless each kind that is wanted for a call, for stored records or for those that are refused with 9
+   was compared often enough. */
 void require_page_kinds_of(enum page_call call, struct required *so_far)
 {
     for (int kind = 0; kind < PAGE_KINDS; kind++)
@@ -215,9 +240,9 @@ void require_page_kinds_of(enum page_call call, struct required *so_far)
             so_far->least = kinds[call][kind] < so_far->least ? kinds[call][kind] : so_far->least;
             so_far->kinds++;
         }
-    for (uint64_t fault = 0; call != STORED && fault < FAULTS; fault++)
+    for (uint64_t fault = 0; call < PAGE_CALLS && fault < FAULTS; fault++)
         require_number(faults[call][fault], LEAST, "calls refused with 7 for the fault with number", fault);
-    for (uint64_t state = 0; call != STORED && call != COLLECT && state < 256; state++)
+    for (uint64_t state = 0; call < PAGE_CALLS && call != COLLECT && state < 256; state++)
         require_number(states[call][state], LEAST_OF_EACH, "cells of state", state);
     require_numbers(call);
 }

@@ -6,16 +6,14 @@
 
 #include "../rules/page.h"
 
-/* What a kind is counted for: the calls, and the records that take stores in an empty place. */
-enum page_call { TAKE, COLLECT, READ, COEFFICIENT, TALLY, PAGE_CALLS, STORED = PAGE_CALLS, COUNTED_FOR };
+/* What a kind is counted for: the calls, the records that take stores in an empty place, and those that it refuses with
+   9. */
+enum page_call { TAKE, COLLECT, READ, COEFFICIENT, TALLY, PAGE_CALLS, STORED = PAGE_CALLS, FOREIGN, COUNTED_FOR };
 
 enum page_kind {
     /* what is held where the call looks */
     CELL_SOUND,
     CELL_MENDED,
-    CELL_9,
-    CELL_9_AND_10,
-    CELL_9_AND_14,
     CELL_10_AT_NUMBER,
     CELL_10_AND_0,
     CELL_10_FROM_8,
@@ -38,13 +36,28 @@ enum page_kind {
     EMPTY_GARBAGE,
     CONTESTED_ZEROS,
     CONTESTED_GARBAGE,
+    EMPTY_OTHER_ROW,
+    CONTESTED_OTHER_ROW,
     FAULT_STATE,
     FAULT_HIGH,
     FAULT_LOW,
     FAULT_BOTH,
+    FAULT_PLACE_AND_ROW,
+    /* a record of another row, held or refused */
+    OTHER_ROW_ALONE,
+    OTHER_ROW_AND_10,
+    OTHER_ROW_AND_14,
+    ROW_BEFORE,
+    ROW_BEHIND,
+    ROW_BEFORE_AT_FIRST,
+    ROW_BEHIND_AT_LAST,
+    ROW_IN_LOW_BITS,
+    NO_ROW_OF_TABLE,
     /* where it looks */
     AT_PLACE_0,
     AT_LAST_PLACE,
+    AT_FIRST_OF_ROW,
+    AT_LAST_OF_ROW,
     AT_PAST_255,
     OF_1_PLACE,
     OF_4096_PLACES,
@@ -54,11 +67,17 @@ enum page_kind {
     SAME_STAYS,
     OTHER_IN_SEVERAL,
     FAULT_SAME_REST,
+    FAULT_SAME_BUT_ROW,
+    EMPTY_9,
+    CONTESTED_9,
+    HELD_SAME_BUT_ROW_9,
+    FAULT_SAME_9,
     /* refusals */
     ANSWERED,
     REFUSED_7,
     REFUSED_4,
     REFUSED_8,
+    REFUSED_9,
     REFUSED_12,
     REFUSED_13,
     ROW_0_NAMED,
@@ -70,6 +89,7 @@ enum page_kind {
     NO_PAGE,
     PAGE_CUT,
     OTHER_LENGTH,
+    OTHER_LENGTH_AND_ROW,
     BOTH_LENGTHS,
     AT_END,
     FAR_PAST,
@@ -83,11 +103,15 @@ enum page_kind {
     /* two reasons for a refusal */
     BOTH_7_AND_4,
     BOTH_7_AND_8,
+    BOTH_7_AND_9,
     BOTH_7_AND_13,
     BOTH_4_AND_8,
+    BOTH_4_AND_9,
     BOTH_4_AND_12,
     BOTH_4_AND_13,
+    BOTH_8_AND_9,
     BOTH_8_AND_13,
+    BOTH_9_AND_12,
     BOTH_12_AND_13,
     /* the value of a coefficient */
     VALUE_POSITIVE,
@@ -106,6 +130,9 @@ enum page_kind {
     RUN_TAKEN_AFTER_REFUSED,
     RUN_REPEATS,
     RUN_PERMUTED,
+    RUN_ALL_9,
+    RUN_EMPTY_BESIDE_9,
+    RUN_HELD_BESIDE_9,
     /* tallies */
     FAULT_AT_FIRST,
     FAULT_AT_LAST,
@@ -117,6 +144,7 @@ enum page_kind {
 struct reasons {
     int is_4;
     int is_8;
+    int is_9;
     int is_12;
     int is_13;
 };
@@ -141,7 +169,8 @@ void require_page_kinds(void);
 
 /* page_notes.c: what the cells and the refusals tell */
 void note_cell(enum page_call call, const struct table *table, uint64_t place, const uint8_t *cell);
-void note_where(enum page_call call, const struct page *page, uint64_t place, struct list expected);
+void note_foreign(enum page_call call, const struct table *table, const uint8_t *record);
+void note_where(enum page_call call, const struct table *table, const struct page *page, uint64_t place, struct list expected);
 void note_refusal(enum page_call call, const struct table *table, const struct page *page, uint64_t place, struct list expected);
 void note_both(enum page_call call, struct reasons reasons);
 

@@ -29,50 +29,70 @@ static void note_codeword(enum page_call call, struct shell shell, uint64_t code
     note_page(call, POWER_14, codeword == n && is_power && n > 1);
 }
 
+/* A record of the place and of its row. */
 static void note_held(enum page_call call, const struct table *table, uint64_t place, const uint8_t *record)
 {
     const uint64_t codeword = codeword_of(record), radius_number = record[AT_RADIUS_NUMBER];
     const uint8_t *row = row_at(table, place);
-    const int is_9 = record[AT_ROW] != row_of(table, place);
-    if (radius_number >= row[AT_NUMBER_OF_RADII]) {
-        note_page(call, CELL_9_AND_10, is_9);
-        note_page(call, CELL_10_AT_NUMBER, !is_9 && radius_number == row[AT_NUMBER_OF_RADII]);
-        note_page(call, CELL_10_AND_0, !is_9 && radius_number < MOST_RADII && codeword == 0);
-        note_page(call, CELL_10_FROM_8, !is_9 && radius_number >= MOST_RADII);
+    if (radius_number < row[AT_NUMBER_OF_RADII]) {
+        note_codeword(call, (struct shell){row[AT_LENGTH], row[AT_RADII + radius_number]}, codeword);
         return;
     }
-    const struct shell shell = {row[AT_LENGTH], row[AT_RADII + radius_number]};
-    note_page(call, CELL_9, is_9 && codeword < points_of(shell));
-    note_page(call, CELL_9_AND_14, is_9 && codeword >= least_power_from(points_of(shell)));
-    if (!is_9)
-        note_codeword(call, shell, codeword);
+    note_page(call, CELL_10_AT_NUMBER, radius_number == row[AT_NUMBER_OF_RADII]);
+    note_page(call, CELL_10_AND_0, radius_number < MOST_RADII && codeword == 0);
+    note_page(call, CELL_10_FROM_8, radius_number >= MOST_RADII);
+}
+
+/* A record of another row than that of its place: which row, and what the rest of it would be in the place's. */
+void note_foreign(enum page_call call, const struct table *table, const uint8_t *record)
+{
+    const uint64_t place = two_bytes(record + AT_PLACE), codeword = codeword_of(record), row = record[AT_ROW];
+    const uint64_t right = row_of(table, place), number = record[AT_RADIUS_NUMBER];
+    const uint8_t *fields = row_at(table, place);
+    const int is_10 = number >= fields[AT_NUMBER_OF_RADII];
+    const uint64_t n = is_10 ? 0 : points_of((struct shell){fields[AT_LENGTH], fields[AT_RADII + number]});
+    note_page(call, OTHER_ROW_ALONE, codeword < n);
+    note_page(call, OTHER_ROW_AND_10, is_10);
+    note_page(call, OTHER_ROW_AND_14, !is_10 && codeword >= least_power_from(n));
+    note_page(call, ROW_BEFORE, row + 1 == right);
+    note_page(call, ROW_BEHIND, row == right + 1 && row < table->size / ROW_SIZE);
+    note_page(call, ROW_BEFORE_AT_FIRST, row + 1 == right && row_of(table, place - 1) == row);
+    note_page(call, ROW_BEHIND_AT_LAST, row == right + 1 && row < table->size / ROW_SIZE && row_of(table, place + 1) == row);
+    note_page(call, ROW_IN_LOW_BITS, row % MOST_ROWS == right);
+    note_page(call, NO_ROW_OF_TABLE, row >= table->size / ROW_SIZE);
 }
 
 /* A cell that the call looks at. */
 void note_cell(enum page_call call, const struct table *table, uint64_t place, const uint8_t *cell)
 {
     const uint8_t *record = cell + AT_RECORD, zeros[RECORD_SIZE] = {0}, state = cell[AT_STATE];
-    const int is_zeros = memcmp(record, zeros, RECORD_SIZE) == 0;
+    const int is_zeros = memcmp(record, zeros, RECORD_SIZE) == 0, is_other_row = record[AT_ROW] != row_of(table, place);
     note_state(call, state);
     note_page(call, EMPTY_ZEROS, state == STATE_EMPTY && is_zeros);
     note_page(call, EMPTY_GARBAGE, state == STATE_EMPTY && !is_zeros);
     note_page(call, CONTESTED_ZEROS, state == STATE_CONTESTED && is_zeros);
     note_page(call, CONTESTED_GARBAGE, state == STATE_CONTESTED && !is_zeros);
+    note_page(call, EMPTY_OTHER_ROW, state == STATE_EMPTY && is_other_row);
+    note_page(call, CONTESTED_OTHER_ROW, state == STATE_CONTESTED && is_other_row);
     note_page(call, FAULT_STATE, state > STATE_CONTESTED);
     if (state != STATE_HELD)
         return;
     const uint64_t changed = two_bytes(record + AT_PLACE) ^ place, high = changed / 256, low = changed % 256;
-    note_page(call, FAULT_HIGH, high != 0 && low == 0);
-    note_page(call, FAULT_LOW, high == 0 && low != 0);
-    note_page(call, FAULT_BOTH, high != 0 && low != 0);
-    if (changed == 0)
+    note_page(call, FAULT_HIGH, high != 0 && low == 0 && !is_other_row);
+    note_page(call, FAULT_LOW, high == 0 && low != 0 && !is_other_row);
+    note_page(call, FAULT_BOTH, high != 0 && low != 0 && !is_other_row);
+    note_page(call, FAULT_PLACE_AND_ROW, changed != 0 && is_other_row);
+    if (changed == 0 && is_other_row)
+        note_foreign(call, table, record);
+    if (changed == 0 && !is_other_row)
         note_held(call, table, place, record);
 }
 
 /* Where a call looks that is answered, or refused with 12. */
-void note_where(enum page_call call, const struct page *page, uint64_t place, struct list expected)
+void note_where(enum page_call call, const struct table *table, const struct page *page, uint64_t place, struct list expected)
 {
-    const int is_beside_0 = place > 0, is_0_at_fault = is_at_fault(cell_at(page, 0), 0);
+    const int is_beside_0 = place > 0, is_0_at_fault = is_at_fault(table, 0, cell_at(page, 0));
+    const uint64_t row = row_of(table, place);
     if (expected.items[0] == 12) {
         note_page(call, FAULT_BESIDE_GOOD, is_beside_0 && !is_0_at_fault);
         return;
@@ -80,6 +100,8 @@ void note_where(enum page_call call, const struct page *page, uint64_t place, st
     note_page(call, BESIDE_FAULT, is_beside_0 && is_0_at_fault);
     note_page(call, AT_PLACE_0, place == 0);
     note_page(call, AT_LAST_PLACE, is_beside_0 && place == page->places - 1);
+    note_page(call, AT_FIRST_OF_ROW, is_beside_0 && row_of(table, place - 1) < row);
+    note_page(call, AT_LAST_OF_ROW, place < page->places - 1 && row_of(table, place + 1) > row);
     note_page(call, AT_PAST_255, place > 255);
     note_page(call, OF_1_PLACE, page->places == 1);
     note_page(call, OF_4096_PLACES, page->places == MOST_PLACES);
@@ -112,7 +134,7 @@ static void note_page_size(enum page_call call, const struct page *page)
 }
 
 /* Refusal 8. */
-static void note_outside(enum page_call call, const struct page *page, uint64_t place)
+static void note_outside(enum page_call call, const struct table *table, const struct page *page, uint64_t place)
 {
     const uint64_t cuts[] = {256, MOST_PLACES, 65536, TWO_TO_32};
     int is_cut = 0;
@@ -121,7 +143,7 @@ static void note_outside(enum page_call call, const struct page *page, uint64_t 
     note_page(call, AT_END, place == page->places);
     note_page(call, FAR_PAST, place >= TWO_TO_63);
     note_page(call, CUT_PLACE, is_cut);
-    note_page(call, PAST_BESIDE_FAULT, is_at_fault(cell_at(page, 0), 0));
+    note_page(call, PAST_BESIDE_FAULT, is_at_fault(table, 0, cell_at(page, 0)));
 }
 
 /* What a call with a place answers by number, and what is behind it. */
@@ -132,6 +154,7 @@ void note_refusal(enum page_call call, const struct table *table, const struct p
     note_page(call, REFUSED_7, refusal == 7);
     note_page(call, REFUSED_4, refusal == 4);
     note_page(call, REFUSED_8, refusal == 8);
+    note_page(call, REFUSED_9, refusal == 9);
     note_page(call, REFUSED_12, refusal == 12);
     note_page(call, REFUSED_13, refusal == 13);
     if (refusal == 7)
@@ -139,15 +162,18 @@ void note_refusal(enum page_call call, const struct table *table, const struct p
     if (refusal == 4)
         note_page_size(call, page);
     if (refusal == 8)
-        note_outside(call, page, place);
+        note_outside(call, table, page, place);
 }
 
 /* Two reasons for a refusal at once, with a good table. */
 void note_both(enum page_call call, struct reasons reasons)
 {
     note_page(call, BOTH_4_AND_8, reasons.is_4 && reasons.is_8);
+    note_page(call, BOTH_4_AND_9, reasons.is_4 && reasons.is_9);
     note_page(call, BOTH_4_AND_12, reasons.is_4 && reasons.is_12);
     note_page(call, BOTH_4_AND_13, reasons.is_4 && reasons.is_13);
+    note_page(call, BOTH_8_AND_9, reasons.is_8 && reasons.is_9);
     note_page(call, BOTH_8_AND_13, reasons.is_8 && reasons.is_13);
+    note_page(call, BOTH_9_AND_12, reasons.is_9 && reasons.is_12);
     note_page(call, BOTH_12_AND_13, reasons.is_12 && reasons.is_13);
 }

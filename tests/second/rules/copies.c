@@ -25,6 +25,15 @@ void begin_page(struct page *page, uint64_t places)
         set_byte(page, i, i < GUARDS || i >= GUARDS + page->size ? (uint8_t)(0x91 + i) : 0);
 }
 
+/* A page of these bytes, of any size. Behind a part of a cell guards make it a whole one. */
+void fill_page(struct page *page, const uint8_t *bytes, uint64_t size)
+{
+    begin_page(page, (size + CELL_SIZE - 1) / CELL_SIZE);
+    page->size = size;
+    for (uint64_t i = 0; i < CELL_SIZE * page->places; i++)
+        set_byte(page, GUARDS + i, i < size ? bytes[i] : (uint8_t)(0x91 + GUARDS + i));
+}
+
 void copy_page(struct page *to, const struct page *from)
 {
     to->places = from->places;

@@ -5,6 +5,15 @@
 
 #include <string.h>
 
+/* "An answer is one of the words". */
+const char *const reading_words[READINGS] = {
+    [SOUND] = "sound",
+    [MENDED] = "mended",
+    [MISSING] = "missing",
+    [CONTESTED] = "contested",
+    [UNREADABLE] = "unreadable",
+};
+
 static struct list refused(uint64_t refusal, uint64_t named)
 {
     return (struct list){{refusal, named}};
@@ -24,11 +33,19 @@ uint64_t least_power_from(uint64_t n)
     return power;
 }
 
-/* 12: "if its state is above 2, or if it is held with a record of another place". */
-int is_at_fault(const uint8_t *cell, uint64_t place)
+/* 9: "the record's row is not the row of its place". The place must be in the table. */
+int is_foreign(const struct table *table, const uint8_t *record)
 {
+    return record[AT_ROW] != row_of(table, two_bytes(record + AT_PLACE));
+}
+
+/* 12: "if its state is above 2, or if it is held with a record of another place, or of another row than the
+   place's". */
+int is_at_fault(const struct table *table, uint64_t place, const uint8_t *cell)
+{
+    const uint8_t *record = cell + AT_RECORD;
     if (cell[AT_STATE] == STATE_HELD)
-        return two_bytes(cell + AT_RECORD + AT_PLACE) != place;
+        return two_bytes(record + AT_PLACE) != place || is_foreign(table, record);
     return cell[AT_STATE] > STATE_CONTESTED;
 }
 
@@ -37,13 +54,11 @@ static struct reading unreadable(uint64_t reason)
     return (struct reading){.word = UNREADABLE, .reason = reason};
 }
 
-/* The held record of a place, its fields judged in the order of the rules. */
+/* The held record of a place, which has the row of that place: its other fields, judged in the order of the rules. */
 static struct reading read_record(const struct table *table, uint64_t place, const uint8_t *record)
 {
     const uint64_t codeword = codeword_of(record);
     const uint8_t *row = row_at(table, place);
-    if (record[AT_ROW] != row_of(table, place))
-        return unreadable(9);
     if (record[AT_RADIUS_NUMBER] >= row[AT_NUMBER_OF_RADII])
         return unreadable(10);
     const struct shell shell = {row[AT_LENGTH], row[AT_RADII + record[AT_RADIUS_NUMBER]]};
@@ -67,7 +82,7 @@ struct reading read_cell(const struct table *table, uint64_t place, const uint8_
     return read_record(table, place, cell + AT_RECORD);
 }
 
-/* The page rule: "The cell of that place then goes by the page rule". */
+/* "The cell of a place that is claimed goes by the page rule". */
 static void claim(uint8_t *cell, const uint8_t *record)
 {
     const int is_same = memcmp(cell + AT_RECORD, record, RECORD_SIZE) == 0;
@@ -79,7 +94,7 @@ static void claim(uint8_t *cell, const uint8_t *record)
         cell[AT_RECORD + i] = is_other ? 0 : record[i];
 }
 
-/* "take | 7, 4, 8, 12". */
+/* "take | 7, 4, 8, 9, 12". */
 struct list take(const struct table *table, struct page *page, const struct arrival *arrival)
 {
     const struct judgment judgment = judge(table->bytes, table->size);
@@ -90,8 +105,10 @@ struct list take(const struct table *table, struct page *page, const struct arri
     const uint64_t place = two_bytes(arrival->bytes + AT_PLACE);
     if (place >= judgment.places)
         return refused(8, 0);
+    if (is_foreign(table, arrival->bytes))
+        return refused(9, 0);
     uint8_t *cell = page->own + GUARDS + CELL_SIZE * place;
-    if (is_at_fault(cell, place))
+    if (is_at_fault(table, place, cell))
         return refused(12, 0);
     claim(cell, arrival->bytes);
     return refused(0, 0);
@@ -144,7 +161,7 @@ static void write_point(struct reading reading, int32_t *point)
 static struct list looked_at(const struct question *question, int32_t *point)
 {
     const uint8_t *cell = cell_at(question->page, question->place);
-    if (is_at_fault(cell, question->place))
+    if (is_at_fault(question->table, question->place, cell))
         return refused(12, 0);
     const struct reading reading = read_cell(question->table, question->place, cell);
     write_point(reading, point);
@@ -197,7 +214,7 @@ struct list tally(const struct table *table, const struct page *page)
     if (page->size != CELL_SIZE * judgment.places)
         return refused(4, 0);
     for (uint64_t place = 0; place < judgment.places; place++) {
-        if (is_at_fault(cell_at(page, place), place))
+        if (is_at_fault(table, place, cell_at(page, place)))
             return refused(12, place);
         list.items[1 + read_cell(table, place, cell_at(page, place)).word]++;
     }

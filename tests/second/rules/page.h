@@ -63,14 +63,17 @@ struct reading {
 /* copies.c: a page in three copies */
 uint64_t room_used(const struct page *page);
 void begin_page(struct page *page, uint64_t places);
+void fill_page(struct page *page, const uint8_t *bytes, uint64_t size);
 void copy_page(struct page *to, const struct page *from);
 void set_cell(struct page *page, uint64_t place, const uint8_t *cell);
 const uint8_t *cell_at(const struct page *page, uint64_t place);
 
 /* page.c: what the calls must answer, and make of a page */
+extern const char *const reading_words[READINGS];
 uint64_t codeword_of(const uint8_t *record);
 uint64_t least_power_from(uint64_t n);
-int is_at_fault(const uint8_t *cell, uint64_t place);
+int is_foreign(const struct table *table, const uint8_t *record);
+int is_at_fault(const struct table *table, uint64_t place, const uint8_t *cell);
 struct reading read_cell(const struct table *table, uint64_t place, const uint8_t *cell);
 struct list take(const struct table *table, struct page *page, const struct arrival *arrival);
 uint64_t collect_bytes(const struct table *table, struct page *page, const uint8_t *bytes, uint64_t size);

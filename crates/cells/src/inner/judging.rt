@@ -8,7 +8,6 @@ use numbering::inner::seek;
 use ranges::inner::power;
 use records::inner::codeword_in;
 use records::inner::radius_number_in;
-use records::inner::row_in;
 use rows::inner::row::radii;
 use rules::Judged;
 use shell::width;
@@ -70,14 +69,11 @@ fn judge_codeword(row: &[u8], number: usize, n: u64) -> Seen
     }
 }
 
-// A held record, in the row of this number.
-fn judge_record(row: &[u8], number: usize, bytes: &[u8]) -> Seen
+// A held record, in its row.
+fn judge_record(row: &[u8], bytes: &[u8]) -> Seen
     requires { ⌜ IsRow (now row) × (length (now bytes) ≡ recordLength) ⌝ }
-    ensures { λ r. ⌜ (r .judged ≡ judgeRecord (now (row .entry)) number (now (bytes .entry))) × Handed (now (row .entry)) (r .judged) (r .found) ⌝ }
+    ensures { λ r. ⌜ (r .judged ≡ judgeRecord (now (row .entry)) (now (bytes .entry))) × Handed (now (row .entry)) (r .judged) (r .found) ⌝ }
 {
-    if row_in(bytes) != number {
-        return unseen(Judged::Unreadable { reason: 9 });
-    }
     let chosen = radius_number_in(bytes);
     if radii(row) <= chosen {
         return unseen(Judged::Unreadable { reason: 10 });
@@ -86,9 +82,9 @@ fn judge_record(row: &[u8], number: usize, bytes: &[u8]) -> Seen
 }
 
 // A cell by its state.
-pub fn judge(row: &[u8], number: usize, state: u8, bytes: &[u8]) -> Seen
+pub fn judge(row: &[u8], state: u8, bytes: &[u8]) -> Seen
     requires { ⌜ IsRow (now row) × (length (now bytes) ≡ recordLength) ⌝ }
-    ensures { λ r. ⌜ Sees (now (row .entry)) number (record { state = state; bytes = now (bytes .entry) }) r ⌝ }
+    ensures { λ r. ⌜ Sees (now (row .entry)) (record { state = state; bytes = now (bytes .entry) }) r ⌝ }
 {
     if state == 0 {
         return unseen(Judged::Missing);
@@ -96,5 +92,5 @@ pub fn judge(row: &[u8], number: usize, state: u8, bytes: &[u8]) -> Seen
     if state != 1 {
         return unseen(Judged::Contested);
     }
-    judge_record(row, number, bytes)
+    judge_record(row, bytes)
 }

@@ -13,7 +13,7 @@ use Rattle.rules.specs.Judging.{judge, judgeAt}
 use Rattle.rules.specs.Reading as rules
 use Rattle.rules.specs.Reading.{coefficientRest, carriedBy}
 use Rattle.rules.specs.Taking.{lookChecks}
-use Rattle.tables.specs.Table.{rowFor}
+use Rattle.tables.specs.Table.{rowOf, rowFor}
 use Rattle.page.proofs.coefficient.Statement.{statement}
 use Rattle.page.proofs.coefficient.Tie as tie
 
@@ -42,9 +42,9 @@ returns c =
     let i = a .coordinate in
     let found = look-found t pg p (c .before .before .before .before .before .survey-look .ensures) (c .before .before .before .places .given .1) in
     let placed = look-place t pg p (found .passes) in
-    let rest : ℕ → List ℕ → List Check = λ r row. coefficientRest row pg p i in
-    let tells : ℕ → List ℕ → List ℕ = λ r row. rules.told (judge row r (cellAt pg p)) in
-    let carries : ℕ → List ℕ → List Float = λ r row. carriedBy row (judge row r (cellAt pg p)) i in
+    let rest : ℕ → List ℕ → List Check = λ r row. coefficientRest row r pg p i in
+    let tells : ℕ → List ℕ → List ℕ = λ r row. rules.told (judge row (cellAt pg p)) in
+    let carries : ℕ → List ℕ → List Float = λ r row. carriedBy row (judge row (cellAt pg p)) i in
     let lent = c .before .row-at .ensures in
     let did = c .coefficient-at .ensures in
     (place-says found placed lent rest tells (did .0), place-leaves found placed lent rest carries [] (did .1))
@@ -57,7 +57,7 @@ returns-2 c =
     let p = a .place in
     let says = c .before .before .before .survey-look .ensures in
     let told = c .before .refusal .given .1 in
-    let rest = coefficientRest (rowFor t p) pg p (a .coordinate) in
+    let rest = coefficientRest (rowFor t p) (rowOf t p) pg p (a .coordinate) in
     let carries = carriedBy (rowFor t p) (judgeAt t pg p) (a .coordinate) in
     (survey-says (lookChecks t pg p) t p says told rest (rules.told (judgeAt t pg p)), survey-leaves (lookChecks t pg p) t p says told rest carries [])
 

@@ -10,7 +10,7 @@ use Rattle.page.proofs.collect.Statement.{statement}
 use Rattle.page.proofs.collect.Tie as tie
 
 collect-records-requires : tie.Need-collect-records-requires
-collect-records-requires c κs = let a = c .before .before .before .before .before .before .before .before .before .args in page-ready (a .table .now) (a .page .now) (c .before .before .before .before .survey-page .ensures) (c .before .before .places .given .1)
+collect-records-requires c κs = let a = c .before .before .before .before .before .before .before .before .before .args in page-ready (a .table .now) (a .page .now) 0 (c .before .before .before .before .survey-page .ensures) (c .before .before .places .given .1)
 
 returns-2 : tie.Need-returns-2
 returns-2 c =

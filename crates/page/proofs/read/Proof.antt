@@ -14,7 +14,7 @@ use Rattle.rules.specs.Judging.{judge, judgeAt, shown}
 use Rattle.rules.specs.Reading as rules
 use Rattle.rules.specs.Reading.{readRest, pointAt}
 use Rattle.rules.specs.Taking.{lookChecks}
-use Rattle.tables.specs.Table.{rowFor}
+use Rattle.tables.specs.Table.{rowOf, rowFor}
 use Rattle.page.proofs.read.Statement.{statement}
 use Rattle.page.proofs.read.Tie as tie
 
@@ -43,9 +43,9 @@ returns c =
     let held = a .out .now in
     let found = look-found t pg p (c .before .before .before .before .before .before .before .survey-look .ensures) (c .before .before .before .before .before .places .given .1) in
     let placed = look-place t pg p (found .passes) in
-    let rest : ℕ → List ℕ → List Check = λ r row. readRest row pg p (length held) in
-    let tells : ℕ → List ℕ → List ℕ = λ r row. rules.told (judge row r (cellAt pg p)) in
-    let shows : ℕ → List ℕ → List ℤ = λ r row. shown row (judge row r (cellAt pg p)) in
+    let rest : ℕ → List ℕ → List Check = λ r row. readRest row r pg p (length held) in
+    let tells : ℕ → List ℕ → List ℕ = λ r row. rules.told (judge row (cellAt pg p)) in
+    let shows : ℕ → List ℕ → List ℤ = λ r row. shown row (judge row (cellAt pg p)) in
     let lent = c .before .before .before .row-at .ensures in
     let did = c .before .read-at .ensures in
     (place-says found placed lent rest tells (did .0), place-leaves found placed lent rest shows held (did .1))
@@ -58,7 +58,7 @@ returns-2 c =
     let p = a .place in
     let says = c .before .before .before .survey-look .ensures in
     let told = c .before .refusal .given .1 in
-    let rest = readRest (rowFor t p) pg p (length (a .out .now)) in
+    let rest = readRest (rowFor t p) (rowOf t p) pg p (length (a .out .now)) in
     (survey-says (lookChecks t pg p) t p says told rest (rules.told (judgeAt t pg p)), survey-leaves (lookChecks t pg p) t p says told rest (pointAt t pg p) (a .out .now))
 
 pub read-spec : {M : Type 1} → statement M

@@ -6,39 +6,51 @@ use borrow.Author.Needs.{needs}
 use Rattle.answers.proofs.InOrder.{passed-says, passed-leaves}
 use Rattle.pairing.proofs.Surveys.{survey-says, survey-leaves}
 use Rattle.rules.specs.Taking.{pageChecks, takeRest, takeInto}
-use Rattle.page.proofs.Surveyed.{page-ready}
+use Rattle.page.proofs.Surveyed.{page-found, page-ready}
+use Rattle.page.proofs.Taking.{tells-by}
 use Rattle.page.proofs.take.Statement.{statement}
 use Rattle.page.proofs.take.Tie as tie
 
 take-record-requires : tie.Need-take-record-requires
-take-record-requires c κs = let a = c .before .before .before .before .before .before .before .before .before .args in page-ready (a .table .now) (a .page .now) (c .before .before .before .before .survey-page .ensures) (c .before .before .places .given .1)
+take-record-requires c κs =
+    let a = c .before .before .before .before .before .before .before .before .before .before .before .args in
+    let t = a .table .now in
+    let pg = a .page .now in
+    let named = c .before .before .before .before .before .before .place-named in
+    let says = c .before .before .before .before .before .survey-page .ensures in
+    let told = c .before .before .before .places .given .1 in
+    let found = page-found t pg (named .result) says told in
+    (page-ready t pg (named .result) says told, tells-by t (a .bytes .now) (named .ensures) (found .is-row) (c .before .names-other-row .ensures))
 
 returns : tie.Need-returns
 returns c =
-    let a = c .before .before .before .before .before .before .before .before .before .before .before .before .args in
+    let a = c .before .before .before .before .before .before .before .before .before .before .before .before .before .before .args in
     let t = a .table .now in
     let pg = a .page .now in
     let x = a .bytes .now in
-    let passes = page-ready t pg (c .before .before .before .before .before .before .before .survey-page .ensures) (c .before .before .before .before .before .places .given .1) .passes in
+    let passes = page-ready t pg (c .before .before .before .before .before .before .before .before .before .place-named .result) (c .before .before .before .before .before .before .before .before .survey-page .ensures) (c .before .before .before .before .before .before .places .given .1) .passes in
     let did = c .before .before .take-record .ensures in
     (did .0 ∙ passed-says (pageChecks t pg) (takeRest t pg x) (0 ∷ []) passes, did .1 ∙ passed-leaves (pageChecks t pg) (takeRest t pg x) (takeInto pg x) pg passes)
 
 returns-2 : tie.Need-returns-2
 returns-2 c =
-    let a = c .before .before .before .before .before .before .before .before .args in
+    let a = c .before .before .before .before .before .before .before .before .before .args in
     let t = a .table .now in
     let pg = a .page .now in
     let x = a .bytes .now in
+    let p = c .before .before .before .before .place-named .result in
     let says = c .before .before .before .survey-page .ensures in
     let told = c .before .refusal .given .1 in
-    (survey-says (pageChecks t pg) t 0 says told (takeRest t pg x) (0 ∷ []), survey-leaves (pageChecks t pg) t 0 says told (takeRest t pg x) (takeInto pg x) pg)
+    (survey-says (pageChecks t pg) t p says told (takeRest t pg x) (0 ∷ []), survey-leaves (pageChecks t pg) t p says told (takeRest t pg x) (takeInto pg x) pg)
 
 pub take-spec : {M : Type 1} → statement M
 take-spec =
     tie.close
     (tie.spec
     (λ c κs. search needs)
+    (λ c κs. search needs)
     (λ c. search needs)
+    (λ c κs. search needs)
     take-record-requires
     (λ c. search needs)
     (λ c. search needs)

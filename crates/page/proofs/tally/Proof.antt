@@ -18,14 +18,14 @@ tally-page-requires c κs =
     let pg = a .page .now in
     let says = c .before .before .before .survey-page .ensures in
     let told = c .before .places .given .1 in
-    (page-ready t pg says told, page-found t pg says told .is-row)
+    (page-ready t pg 0 says told, page-found t pg 0 says told .is-row)
 
 returns : tie.Need-returns
 returns c =
     let a = c .before .before .before .before .before .before .before .args in
     let t = a .table .now in
     let pg = a .page .now in
-    let passes = page-ready t pg (c .before .before .before .before .survey-page .ensures) (c .before .before .places .given .1) .passes in
+    let passes = page-ready t pg 0 (c .before .before .before .before .survey-page .ensures) (c .before .before .places .given .1) .passes in
     c .tally-page .ensures ∙ passed-says (pageChecks t pg) (tallyRest t pg) (0 ∷ tallyOf t pg) passes
 
 returns-2 : tie.Need-returns-2

@@ -57,11 +57,11 @@ pub fn read_at(
 ) -> Reading
     requires { ⌜ IsRow (now row) × InPage (now page) places place ⌝ }
     ensures says { λ r. ⌜ readMeaning r
-        ≡ firstOf (readRest (now (row .entry)) (now (page .entry)) place (listed.length (now (out .entry))))
-        (told (judge (now (row .entry)) number (cellAt (now (page .entry)) place))) ⌝ }
+        ≡ firstOf (readRest (now (row .entry)) number (now (page .entry)) place (listed.length (now (out .entry))))
+        (told (judge (now (row .entry)) (cellAt (now (page .entry)) place))) ⌝ }
     ensures leaves { λ r. ⌜ now (out .exit)
-        ≡ leaves (readRest (now (row .entry)) (now (page .entry)) place (listed.length (now (out .entry))))
-        (shown (now (row .entry)) (judge (now (row .entry)) number (cellAt (now (page .entry)) place)))
+        ≡ leaves (readRest (now (row .entry)) number (now (page .entry)) place (listed.length (now (out .entry))))
+        (shown (now (row .entry)) (judge (now (row .entry)) (cellAt (now (page .entry)) place)))
         (now (out .entry)) ⌝ }
 {
     if out.len() != length(row).0 {
@@ -128,11 +128,11 @@ pub fn coefficient_at(
 ) -> Valued
     requires { ⌜ IsRow (now row) × InPage (now page) places place ⌝ }
     ensures says { λ r. ⌜ coefficientMeaning r
-        ≡ firstOf (coefficientRest (now (row .entry)) (now (page .entry)) place coordinate)
-        (told (judge (now (row .entry)) number (cellAt (now (page .entry)) place))) ⌝ }
+        ≡ firstOf (coefficientRest (now (row .entry)) number (now (page .entry)) place coordinate)
+        (told (judge (now (row .entry)) (cellAt (now (page .entry)) place))) ⌝ }
     ensures carries { λ r. ⌜ coefficientValues r
-        ≡ leaves (coefficientRest (now (row .entry)) (now (page .entry)) place coordinate)
-        (carriedBy (now (row .entry)) (judge (now (row .entry)) number (cellAt (now (page .entry)) place)) coordinate) [] ⌝ }
+        ≡ leaves (coefficientRest (now (row .entry)) number (now (page .entry)) place coordinate)
+        (carriedBy (now (row .entry)) (judge (now (row .entry)) (cellAt (now (page .entry)) place)) coordinate) [] ⌝ }
 {
     if length(row).0 <= coordinate {
         return Valued::Refused(Refusal::NoSuchCoordinate);

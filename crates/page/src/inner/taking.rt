@@ -2,20 +2,51 @@
 use crate::Arrival;
 use answers::Refusal;
 use cells::inner::rule::arrive;
+use pairing::inner::starts::is_foreign;
+use pairing::inner::starts::row_starts;
 use records::inner::place_in;
+use records::inner::row_in;
 use records::inner::wrong_record;
 ghost use mathlib.Core.List.{[], _∷_};
 ghost use mathlib.Core.Path.{_≡_};
 ghost use Prim.Native.Nat.{_+_, _/_, _≤_, _<_, min};
 ghost use Rattle.answers.specs.Checks.{firstOf, leaves};
 ghost use Rattle.rules.specs.Taking.{takeRest, takeInto, refusals, takeLeaves, collected};
-ghost use Rattle.page.specs.Bounds.{Ready};
+ghost use Rattle.tables.specs.Table.{placesIn};
+ghost use Rattle.tables.specs.Way.{Starts};
+ghost use Rattle.page.specs.Bounds.{Ready, Takes, placeNamed, otherNamed, Tells};
 ghost use Rattle.page.specs.Meanings.{takeMeaning};
 
-// What take does with a table and a page that passed: the checks 4, 8 and 12, and the work. The table is what the
-// contract speaks of.
-pub fn take_record(table: &[u8], places: usize, page: &mut [u8], bytes: &[u8]) -> Arrival
-    requires { ⌜ Ready (now table) (now page) places ⌝ }
+// The place that a record names; 0 for what is no record.
+pub fn place_named(bytes: &[u8]) -> usize
+    ensures { λ p. ⌜ p ≡ placeNamed (now (bytes .entry)) ⌝ }
+{
+    if wrong_record(bytes.len()) {
+        return 0;
+    }
+    place_in(bytes)
+}
+
+// Whether a record names another row than this one; what is no record names none.
+pub fn names_other_row(bytes: &[u8], row: usize) -> bool
+    ensures { λ b. ⌜ b ≡ otherNamed row (now (bytes .entry)) ⌝ }
+{
+    if wrong_record(bytes.len()) {
+        return false;
+    }
+    row_in(bytes) != row
+}
+
+// What take does with a table and a page that passed: the checks 4, 8, 9 and 12, and the work. `foreign` tells 9 of a
+// record whose place is in the table. The table is what the contract speaks of.
+pub fn take_record(
+    table: &[u8],
+    places: usize,
+    foreign: bool,
+    page: &mut [u8],
+    bytes: &[u8],
+) -> Arrival
+    requires { ⌜ Ready (now table) (now page) places × Tells (now table) (now bytes) foreign ⌝ }
     ensures { λ r. ⌜ (takeMeaning r ≡ firstOf (takeRest (now (table .entry)) (now (page .entry)) (now (bytes .entry))) (0 ∷ []))
         × (now (page .exit)
         ≡ leaves (takeRest (now (table .entry)) (now (page .entry)) (now (bytes .entry)))
@@ -28,19 +59,46 @@ pub fn take_record(table: &[u8], places: usize, page: &mut [u8], bytes: &[u8]) -
     if places <= place {
         return Arrival::Refused(Refusal::NoSuchPlace);
     }
-    if arrive(page, places, place, bytes) {
+    if foreign {
+        return Arrival::Refused(Refusal::ForeignRow);
+    }
+    if arrive(page, places, place, row_in(bytes), bytes) {
         return Arrival::Refused(Refusal::BadCell);
     }
     Arrival::Taken
 }
 
-// The same, with 1 for a refusal and 0 for a record that is taken.
-fn refusals_of(table: &[u8], places: usize, page: &mut [u8], bytes: &[u8]) -> usize
-    requires { ⌜ Ready (now table) (now page) places ⌝ }
+// Whether a record's row is not that of its place, by where the rows begin; what is no record of a place in the table
+// has none.
+fn is_foreign_part(table: &[u8], places: usize, starts: &[usize], bytes: &[u8]) -> bool
+    requires { ⌜ Starts (now table) (now starts) × (places ≡ placesIn (now table)) ⌝ }
+    ensures { λ b. ⌜ Tells (now (table .entry)) (now (bytes .entry)) b ⌝ }
+{
+    if wrong_record(bytes.len()) {
+        return false;
+    }
+    let place = place_in(bytes);
+    if places <= place {
+        return false;
+    }
+    is_foreign(table, starts, row_in(bytes), place)
+}
+
+// What take does with a table and a page that passed, by where the rows begin: 1 for a refusal, and 0 for a record that
+// is taken.
+fn refusals_of(
+    table: &[u8],
+    places: usize,
+    starts: &[usize],
+    page: &mut [u8],
+    bytes: &[u8],
+) -> usize
+    requires { ⌜ Takes (now table) (now page) places (now starts) ⌝ }
     ensures { λ r. ⌜ (r ≡ refusals (now (table .entry)) (now (page .entry)) (now (bytes .entry)))
         × (now (page .exit) ≡ takeLeaves (now (table .entry)) (now (page .entry)) (now (bytes .entry))) × (r ≤ 1) ⌝ }
 {
-    match take_record(table, places, page, bytes) {
+    let foreign = is_foreign_part(table, places, starts, bytes);
+    match take_record(table, places, foreign, page, bytes) {
         Arrival::Taken => 0,
         Arrival::Refused(_) => 1,
     }
@@ -67,9 +125,15 @@ pub fn parts(bytes: usize) -> usize
     bytes / 8 + 1
 }
 
-// What collect does with a table and a page that passed.
-pub fn collect_records(table: &[u8], places: usize, page: &mut [u8], bytes: &[u8]) -> usize
-    requires { ⌜ Ready (now table) (now page) places ⌝ }
+// What collect does with a table and a page that passed, by where the rows begin.
+fn collect_parts(
+    table: &[u8],
+    places: usize,
+    starts: &[usize],
+    page: &mut [u8],
+    bytes: &[u8],
+) -> usize
+    requires { ⌜ Takes (now table) (now page) places (now starts) ⌝ }
     ensures { λ r. ⌜ (r ≡ collected (now (table .entry)) (now (page .entry)) (now (bytes .entry)) .refused)
         × (now (page .exit) ≡ collected (now (table .entry)) (now (page .entry)) (now (bytes .entry)) .page) ⌝ }
 {
@@ -77,8 +141,19 @@ pub fn collect_records(table: &[u8], places: usize, page: &mut [u8], bytes: &[u8
     let mut refused = 0;
     while at < bytes.len() {
         let end = part_end(at, bytes.len());
-        refused += refusals_of(table, places, page, &bytes[at..end]);
+        refused += refusals_of(table, places, starts, page, &bytes[at..end]);
         at = end;
     }
     refused
+}
+
+// The same, once it is known where the rows begin.
+pub fn collect_records(table: &[u8], places: usize, page: &mut [u8], bytes: &[u8]) -> usize
+    requires { ⌜ Ready (now table) (now page) places ⌝ }
+    ensures { λ r. ⌜ (r ≡ collected (now (table .entry)) (now (page .entry)) (now (bytes .entry)) .refused)
+        × (now (page .exit) ≡ collected (now (table .entry)) (now (page .entry)) (now (bytes .entry)) .page) ⌝ }
+{
+    let mut starts = [0usize; 33];
+    row_starts(table, &mut starts);
+    collect_parts(table, places, &starts, page, bytes)
 }

@@ -15,21 +15,22 @@ pub enum Looked {
     At(Seen),
 }
 
-// The answer of the cell of a place in this row, which has this number.
-pub fn judge_at(row: &[u8], number: usize, page: &[u8], places: usize, place: usize) -> Seen
+// The answer of the cell of a place in this row.
+pub fn judge_at(row: &[u8], page: &[u8], places: usize, place: usize) -> Seen
     requires { ⌜ IsRow (now row) × InPage (now page) places place ⌝ }
-    ensures { λ seen. ⌜ Sees (now (row .entry)) number (cellAt (now (page .entry)) place) seen ⌝ }
+    ensures { λ seen. ⌜ Sees (now (row .entry)) (cellAt (now (page .entry)) place) seen ⌝ }
 {
     let state = state_at(page, places, place);
-    judge(row, number, state, record_at(page, places, place))
+    judge(row, state, record_at(page, places, place))
 }
 
+// A place in this row, which has this number.
 pub fn look(row: &[u8], number: usize, page: &[u8], places: usize, place: usize) -> Looked
     requires { ⌜ IsRow (now row) × InPage (now page) places place ⌝ }
     ensures { λ r. ⌜ Looks (now (row .entry)) number (now (page .entry)) place r ⌝ }
 {
-    if bad_at(page, places, place) {
+    if bad_at(page, places, place, number) {
         return Looked::Bad;
     }
-    Looked::At(judge_at(row, number, page, places, place))
+    Looked::At(judge_at(row, page, places, place))
 }

@@ -29,11 +29,11 @@ fn with_page(surveyed: Surveyed, page: &[u8]) -> Surveyed
     }
 }
 
-// The table, and the page.
-pub fn survey_page(table: &[u8], page: &[u8]) -> Surveyed
-    ensures { λ r. ⌜ surveyMeaning r ≡ surveySays (pageChecks (now (table .entry)) (now (page .entry))) (now (table .entry)) 0 ⌝ }
+// The table, and the page; and the row of a place, if the table has that place.
+pub fn survey_page(table: &[u8], page: &[u8], place: usize) -> Surveyed
+    ensures { λ r. ⌜ surveyMeaning r ≡ surveySays (pageChecks (now (table .entry)) (now (page .entry))) (now (table .entry)) place ⌝ }
 {
-    with_page(survey(table, 0), page)
+    with_page(survey(table, place), page)
 }
 
 // The table, a place, and the page.

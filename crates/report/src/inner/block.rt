@@ -27,16 +27,28 @@ ghost use Rattle.rules.specs.Taking.{cellCheckAt};
 ghost use Rattle.tables.specs.Row.{lengthOf, IsRow};
 ghost use Rattle.report.specs.Listing.{lineOf, lineIn, linesFrom};
 ghost use Rattle.report.specs.Calls.{lineSpace, listedMeaning, sizeListed, startingWith, linesRest, linesText, linesAnswer};
-ghost use Rattle.report.specs.Bounds.{PlacesIn, HasRoom, Listable};
+ghost use Rattle.report.specs.Bounds.{Spans, HasRoom, Listable};
 
-// Whether the cells of some places are good, or the refusal that names the lowest that is not.
-fn check_cells(page: &[u8], places: usize, from: usize, to: usize) -> Verdict
-    requires { ⌜ PlacesIn (now page) places to ⌝ }
-    ensures { λ r. ⌜ verdictMeaning r ≡ firstOf (eachFrom (cellCheckAt (now (page .entry))) from (to - from)) (0 ∷ []) ⌝ }
+// Whether the cells of the places from `from`, which is in this row, to the one before `to` are good, or the refusal
+// that names the lowest that is not.
+fn check_cells(
+    table: &[u8],
+    row: usize,
+    page: &[u8],
+    places: usize,
+    from: usize,
+    to: usize,
+) -> Verdict
+    requires { ⌜ Spans (now table) row (now page) places from to ⌝ }
+    ensures { λ r. ⌜ verdictMeaning r
+        ≡ firstOf (eachFrom (cellCheckAt (now (table .entry)) (now (page .entry))) from (to - from)) (0 ∷ []) ⌝ }
 {
+    let mut walk = walk_from(table, row, from);
     let mut place = from;
     while place < to {
-        if bad_at(page, places, place) {
+        walk = walked(table, walk, place);
+        let number = walk.row;
+        if bad_at(page, places, place, number) {
             return Verdict::Refused(Refusal::BadCellAt { place });
         }
         place += 1;
@@ -62,10 +74,9 @@ fn write_seen(
     write_place_line(place, answer_number(judged), reason(judged), point, at, out)
 }
 
-// The line of a place in this row, which has this number; where it ends.
+// The line of a place in this row; where it ends.
 fn write_line(
     row: &[u8],
-    number: usize,
     page: &[u8],
     places: usize,
     place: usize,
@@ -73,10 +84,10 @@ fn write_line(
     out: &mut [u8],
 ) -> usize
     requires { ⌜ IsRow (now row) × InPage (now page) places place × (at + lineSpace ≤ listed.length (now out)) ⌝ }
-    ensures { λ r. ⌜ Wrote (now (out .entry)) at (lineIn (now (row .entry)) number (now (page .entry)) place) lineSpace r (now (out .exit)) ⌝ }
+    ensures { λ r. ⌜ Wrote (now (out .entry)) at (lineIn (now (row .entry)) (now (page .entry)) place) lineSpace r (now (out .exit)) ⌝ }
 {
     let l = length(row).0;
-    let seen = judge_at(row, number, page, places, place);
+    let seen = judge_at(row, page, places, place);
     let mut point = [0i32; 16];
     write_seen(row, place, seen, &mut point[..l], at, out)
 }
@@ -100,8 +111,7 @@ fn write_lines(
     let mut place = from;
     while place < to {
         walk = walked(table, walk, place);
-        let number = walk.row;
-        end = write_line(row_at(table, number), number, page, places, place, end, out);
+        end = write_line(row_at(table, walk.row), page, places, place, end, out);
         place += 1;
     }
     end
@@ -139,7 +149,7 @@ pub fn lines_from(
         return Listed::Refused(Refusal::BufferLength);
     }
     let to = from + least(places - from, out.len() / 256);
-    match check_cells(page, places, from, to) {
+    match check_cells(table, row, page, places, from, to) {
         Verdict::Passed => Listed::Written {
             to,
             size: write_lines(table, row, page, places, from, to, out),

@@ -1,41 +1,31 @@
--- `cells::inner::judging::judge_record` judges a held record: its row byte, its radius number, then its codeword.
+-- `cells::inner::judging::judge_record` judges a held record: its radius number, then its codeword.
 use Prim.Native.Nat.{ℕ}
-use mathlib.Core.Path.{_≡_, sym, ap₂, _∙_}
+use mathlib.Core.Path.{ap₂, _∙_}
 use native.Mathlib.Omega.{arith}
 use borrow.Author.Needs.{needs}
-use Rattle.records.specs.Record.{rowIn}
 use Rattle.tables.specs.Row.{radiusAt}
 use Rattle.rules.specs.Judging.{judgeIn}
-use Rattle.cells.proofs.Judging.{record-9, record-10, record-judged, seen-as}
+use Rattle.cells.proofs.Judging.{record-10, record-judged, seen-as}
 use Rattle.cells.proofs.inner.judging.judge_record.Statement.{statement}
 use Rattle.cells.proofs.inner.judging.judge_record.Tie as tie
 
 returns : tie.Need-returns
 returns c =
-    let a = c .before .before .before .before .before .args in
+    let a = c .before .before .before .before .before .before .args in
     let row = a .row .now in
+    let y = a .bytes .now in
     seen-as row (c .unseen .result) (c .unseen .ensures) tt
-    (record-9 row (a .number) (a .bytes .now) (λ e. c .before .if1 .taken (c .before .before .row-in .ensures .0 ∙ e)))
+    (record-10 row y (omega (arith, c .before .before .before .radius-number-in .ensures .0, c .before .before .radii .ensures)))
 
 returns-2 : tie.Need-returns-2
 returns-2 c =
-    let a = c .before .before .before .before .before .before .before .before .args in
+    let a = c .before .before .before .before .before .before .before .args in
     let row = a .row .now in
     let y = a .bytes .now in
-    let here : rowIn y ≡ a .number = sym (c .before .before .before .before .before .row-in .ensures .0) ∙ c .before .before .before .before .if1 .left in
-    seen-as row (c .unseen2 .result) (c .unseen2 .ensures) tt
-    (record-10 row (a .number) y here (omega (arith, c .before .before .before .radius-number-in .ensures .0, c .before .before .radii .ensures)))
-
-returns-3 : tie.Need-returns-3
-returns-3 c =
-    let a = c .before .before .before .before .before .before .before .before .before .args in
-    let row = a .row .now in
-    let y = a .bytes .now in
-    let here : rowIn y ≡ a .number = sym (c .before .before .before .before .before .before .row-in .ensures .0) ∙ c .before .before .before .before .before .if1 .left in
     let chosen = c .before .before .before .before .radius-number-in .ensures .0 in
     let did = c .judge-codeword .ensures in
     let codeword = ap₂ (λ (number n : ℕ). judgeIn row (radiusAt row number) n) chosen (c .before .codeword-in .ensures .0) in
-    (did .0 ∙ codeword ∙ record-judged row (a .number) y here (omega (arith, chosen, c .before .before .before .radii .ensures)), did .1)
+    (did .0 ∙ codeword ∙ record-judged row y (omega (arith, chosen, c .before .before .before .radii .ensures)), did .1)
 
 pub judge-record-spec : {M : Type 1} → statement M
 judge-record-spec =
@@ -43,11 +33,8 @@ judge-record-spec =
     (tie.spec
     (λ c κs. search needs)
     (λ c κs. search needs)
+    (λ c κs. search needs)
     returns
     (λ c κs. search needs)
     (λ c κs. search needs)
-    (λ c κs. search needs)
-    returns-2
-    (λ c κs. search needs)
-    (λ c κs. search needs)
-    returns-3)
+    returns-2)

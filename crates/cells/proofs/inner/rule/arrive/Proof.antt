@@ -13,13 +13,14 @@ returns c =
     let a = c .before .before .before .before .before in
     let pg = a .args .page .now in
     let p = a .args .place in
-    let bad : badCell p (cellAt pg p) ≡ true = sym (c .before .bad-at .ensures) ∙ c .if1 .taken in
+    let bad : badCell p (a .args .row) (cellAt pg p) ≡ true = sym (c .before .bad-at .ensures) ∙ c .if1 .taken in
     (sym bad, rw bad (sym (set-back (a .args .places) pg (a .pre .0 .size) p (a .pre .0 .below))))
 
 returns-2 : tie.Need-returns-2
 returns-2 c =
     let a = c .before .before .before .before .before .before .before .before .before .args in
-    let fine : badCell (a .place) (cellAt (a .page .now) (a .place)) ≡ false = sym (c .before .before .before .before .before .bad-at .ensures) ∙ c .before .before .before .before .if1 .left in
+    let fine : badCell (a .place) (a .row) (cellAt (a .page .now) (a .place)) ≡ false =
+    sym (c .before .before .before .before .before .bad-at .ensures) ∙ c .before .before .before .before .if1 .left in
     (sym fine, rw fine (c .before .before .take-cell .ensures))
 
 pub arrive-spec : {M : Type 1} → statement M

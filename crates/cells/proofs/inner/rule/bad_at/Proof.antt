@@ -7,7 +7,9 @@ use Rattle.cells.proofs.inner.rule.bad_at.Statement.{statement}
 use Rattle.cells.proofs.inner.rule.bad_at.Tie as tie
 
 returns : tie.Need-returns
-returns c = c .bad-cell .ensures ∙ ap (badCell (c .before .before .before .before .args .place)) (same-cell (c .before .before .state-at .ensures) (c .before .record-at .ensures .0))
+returns c =
+    let a = c .before .before .before .before .args in
+    c .bad-cell .ensures ∙ ap (badCell (a .place) (a .row)) (same-cell (c .before .before .state-at .ensures) (c .before .record-at .ensures .0))
 
 pub bad-at-spec : {M : Type 1} → statement M
 bad-at-spec =

@@ -1,43 +1,62 @@
 -- `page::inner::taking::take_record` says and leaves what the call take is to say and leave behind the checks of
--- the table and the page: refusals 4, 8 and 12, and the page as it was; or the record in the cell of its place.
+-- the table and the page: refusals 4, 8, 9 and 12, and the page as it was; or the record in the cell of its place.
 use mathlib.Core.Path.{sym, _∙_}
 use lib.ListN.{length}
 use borrow.Author.Needs.{needs}
 use Rattle.answers.proofs.Lengths.{right-length}
 use Rattle.records.specs.Record.{recordLength}
-use Rattle.page.proofs.Taking.{take-4, take-8, its-cell, take-12, take-0}
+use Rattle.page.proofs.Taking.{take-4, take-8, its-cell, take-9, take-12, take-0}
 use Rattle.page.proofs.inner.taking.take_record.Statement.{statement}
 use Rattle.page.proofs.inner.taking.take_record.Tie as tie
 
 returns : tie.Need-returns
-returns c = let a = c .before .before .before .before .before in take-4 (a .pre) (a .args .bytes .now) (sym (c .before .wrong-record .ensures) ∙ c .if1 .taken)
+returns c =
+    let a = c .before .before .before .before .before in
+    take-4 (a .pre .0) (a .args .bytes .now) (sym (c .before .wrong-record .ensures) ∙ c .if1 .taken)
 
 place-in-requires : tie.Need-place-in-requires
-place-in-requires c κs = right-length (length (c .before .before .before .before .before .args .bytes .now)) recordLength (sym (c .before .wrong-record .ensures) ∙ c .if1 .left)
+place-in-requires c κs =
+    right-length (length (c .before .before .before .before .before .args .bytes .now)) recordLength (sym (c .before .wrong-record .ensures) ∙ c .if1 .left)
 
 returns-2 : tie.Need-returns-2
 returns-2 c =
     let a = c .before .before .before .before .before .before .before in
-    take-8 (a .pre) (a .args .bytes .now) (sym (c .before .before .before .wrong-record .ensures) ∙ c .before .before .if1 .left) (c .before .place-in .ensures .0) (c .if2 .taken)
-
-arrive-requires : tie.Need-arrive-requires
-arrive-requires c κs =
-    let a = c .before .before .before .before .before .before .before .before in
-    let x = a .args .bytes .now in
-    let eight = sym (c .before .before .before .before .wrong-record .ensures) ∙ c .before .before .before .if1 .left in
-    (its-cell (a .pre) x eight (c .before .before .place-in .ensures .0) (c .before .if2 .left), right-length (length x) recordLength eight)
+    let eight = sym (c .before .before .before .wrong-record .ensures) ∙ c .before .before .if1 .left in
+    take-8 (a .pre .0) (a .args .bytes .now) eight (c .before .place-in .ensures .0) (c .if2 .taken)
 
 returns-3 : tie.Need-returns-3
 returns-3 c =
-    let a = c .before .before .before .before .before .before .before .before .before .before .before .before in
-    let did = c .before .before .before .arrive .ensures in
-    take-12 (a .pre) (a .args .bytes .now) (sym (c .before .before .before .before .before .before .before .before .wrong-record .ensures) ∙ c .before .before .before .before .before .before .before .if1 .left) (c .before .before .before .before .before .before .place-in .ensures .0) (c .before .before .before .before .before .if2 .left) (did .0) (did .1) (c .if3 .taken)
+    let a = c .before .before .before .before .before .before .before .before in
+    let eight = sym (c .before .before .before .before .wrong-record .ensures) ∙ c .before .before .before .if1 .left in
+    take-9 (a .pre .0) (a .args .bytes .now) eight (c .before .before .place-in .ensures .0) (c .before .if2 .left) (a .pre .1) (c .if3 .taken)
+
+row-in-requires : tie.Need-row-in-requires
+row-in-requires c κs =
+    let eight = sym (c .before .before .before .before .before .wrong-record .ensures) ∙ c .before .before .before .before .if1 .left in
+    right-length (length (c .before .before .before .before .before .before .before .before .before .args .bytes .now)) recordLength eight
+
+arrive-requires : tie.Need-arrive-requires
+arrive-requires c κs =
+    let a = c .before .before .before .before .before .before .before .before .before .before in
+    let x = a .args .bytes .now in
+    let eight = sym (c .before .before .before .before .before .before .wrong-record .ensures) ∙ c .before .before .before .before .before .if1 .left in
+    (its-cell (a .pre .0) x eight (c .before .before .before .before .place-in .ensures .0) (c .before .before .before .if2 .left), right-length (length x) recordLength eight)
 
 returns-4 : tie.Need-returns-4
 returns-4 c =
-    let a = c .before .before .before .before .before .before .before .before .before .before .before .before in
+    let a = c .before .before .before .before .before .before .before .before .before .before .before .before .before .before in
+    let eight = sym (c .before .before .before .before .before .before .before .before .before .before .wrong-record .ensures) ∙ c .before .before .before .before .before .before .before .before .before .if1 .left in
     let did = c .before .before .before .arrive .ensures in
-    take-0 (a .pre) (a .args .bytes .now) (sym (c .before .before .before .before .before .before .before .before .wrong-record .ensures) ∙ c .before .before .before .before .before .before .before .if1 .left) (c .before .before .before .before .before .before .place-in .ensures .0) (c .before .before .before .before .before .if2 .left) (did .0) (did .1) (c .if3 .left)
+    take-12 (a .pre .0) (a .args .bytes .now) eight (c .before .before .before .before .before .before .before .before .place-in .ensures .0) (c .before .before .before .before .before .before .before .if2 .left) (a .pre .1) (c .before .before .before .before .before .before .if3 .left)
+    (c .before .before .before .before .row-in .ensures .0) (did .0) (did .1) (c .if4 .taken)
+
+returns-5 : tie.Need-returns-5
+returns-5 c =
+    let a = c .before .before .before .before .before .before .before .before .before .before .before .before .before .before in
+    let eight = sym (c .before .before .before .before .before .before .before .before .before .before .wrong-record .ensures) ∙ c .before .before .before .before .before .before .before .before .before .if1 .left in
+    let did = c .before .before .before .arrive .ensures in
+    take-0 (a .pre .0) (a .args .bytes .now) eight (c .before .before .before .before .before .before .before .before .place-in .ensures .0) (c .before .before .before .before .before .before .before .if2 .left) (a .pre .1) (c .before .before .before .before .before .before .if3 .left)
+    (c .before .before .before .before .row-in .ensures .0) (did .0) (did .1) (c .if4 .left)
 
 pub take-record-spec : {M : Type 1} → statement M
 take-record-spec =
@@ -47,8 +66,10 @@ take-record-spec =
     returns
     place-in-requires
     returns-2
+    returns-3
+    row-in-requires
     arrive-requires
     (λ c. search needs)
-    returns-3
+    returns-4
     (λ c. search needs)
-    returns-4)
+    returns-5)

@@ -34,7 +34,7 @@ look-requires : tie.Need-look-requires Inv-loop μ-loop
 look-requires c κs = (rw (c .row-at .ensures .0) (row-bytes (c .before .walked .ensures)), its-cell (c .before .before .before .before .before .before .before .pre .0) (c .before .before .before .loop .inv) (search needs))
 
 returns : tie.Need-returns Inv-loop μ-loop
-returns c = tally-12 (c .before .before .before .before .before .before .before .before .before .before .pre .0) (c .before .before .before .before .before .before .loop .inv) (search needs) (rw (c .enum-told .given .1) at (c .before .before .look .ensures))
+returns c = tally-12 (c .before .before .before .before .before .before .before .before .before .before .pre .0) (c .before .before .before .before .before .before .loop .inv) (search needs) (c .before .before .before .before .walked .ensures) (rw (c .enum-told .given .1) at (c .before .before .look .ensures))
 
 add-counts : tie.Need-add-counts Inv-loop μ-loop
 add-counts c = omega (arith, count-fits (c .before .before .before .before .before .before .before .before .before .before .before .before .pre .0) (c .before .before .before .before .before .before .before .before .loop .inv) (search needs) (c .answer-number .result))
@@ -47,7 +47,7 @@ loop-again c =
     let a = c .before .before .before .before .before .before .before .before .before .before .before .before in
     let i = c .before .before .before .before .before .before .before .before .loop in
     let seen = rw (c .before .before .seen .given .1) at (c .before .before .before .before .look .ensures) in
-    let judged = seen .1 .is-judged ∙ ap (λ (row : List _). judge row (c .before .before .before .before .before .before .walked .result .row) (cellAt (a .args .page .now) (i .place))) (c .before .before .before .before .before .row-at .ensures .0) in
+    let judged = seen .1 .is-judged ∙ ap (λ (row : List _). judge row (cellAt (a .args .page .now) (i .place))) (c .before .before .before .before .before .row-at .ensures .0) in
     counts-on (a .pre .0) (i .inv) (search needs) (c .before .before .before .before .before .before .walked .ensures) (seen .0) judged (c .answer-number .ensures .0)
 
 returns-2 : tie.Need-returns-2 Inv-loop μ-loop

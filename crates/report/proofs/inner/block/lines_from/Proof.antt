@@ -14,7 +14,7 @@ sub-least : tie.Need-sub-least
 sub-least c = from-places (c .before .before .before .before .pre)
 
 check-cells-requires : tie.Need-check-cells-requires
-check-cells-requires c κs = let a = c .before .before .before .before .before in has-room (a .pre) (a .args .out .now) (c .least .ensures) .in-page
+check-cells-requires c κs = let a = c .before .before .before .before .before in has-room (a .pre) (a .args .out .now) (c .least .ensures) .spans
 
 write-lines-requires : tie.Need-write-lines-requires
 write-lines-requires c κs = let a = c .before .before .before .before .before .before .before .before .before in has-room (a .pre) (a .args .out .now) (c .before .before .before .before .least .ensures)

@@ -20,17 +20,17 @@ abbrev μ-loop : tie.MeasureT-loop
 loop-holds : tie.Need-loop-holds Inv-loop μ-loop
 loop-holds c =
     let a = c .before .before .before .before in
-    (omega arith, a .pre .from-to, walks-here (c .walk-from .ensures), begins-lines (a .args .table .now) (a .args .page .now) (a .args .from) (a .args .out .now))
+    (omega arith, a .pre .spans .from-to, walks-here (c .walk-from .ensures), begins-lines (a .args .table .now) (a .args .page .now) (a .args .from) (a .args .out .now))
 
 walked-requires : tie.Need-walked-requires Inv-loop μ-loop
-walked-requires c κs = let a = c .before .before .before .before .before .before .pre in (c .before .loop .inv .2, omega (arith, a .in-page .to-places, a .is-places))
+walked-requires c κs = let a = c .before .before .before .before .before .before .pre in (c .before .loop .inv .2, omega (arith, a .spans .to-places, a .spans .is-places))
 
 write-line-requires : tie.Need-write-line-requires Inv-loop μ-loop
 write-line-requires c κs =
     let a = c .before .before .before .before .before .before .before .before .before .pre in
     let so-far = c .before .before .before .before .loop .inv .3 in (
       rw (c .before .row-at .ensures .0) (row-bytes (c .before .before .walked .ensures)),
-      record { size = a .in-page .size; places-to = a .in-page .places-to; below = omega (arith, a .in-page .to-places) },
+      record { size = a .spans .size; places-to = a .spans .places-to; below = omega (arith, a .spans .to-places) },
       omega (arith, so-far .to, wrote-length so-far, a .room),
     )
 
@@ -39,7 +39,7 @@ loop-again c =
     let a = c .before .before .before .before .before .before .before .before .before .before .before .before in
     let i = c .before .before .before .before .before .before .before .loop in
     let at-row = c .before .before .before .before .before .walked .ensures in
-    let number = its-row at-row (omega (arith, a .pre .in-page .to-places, a .pre .is-places)) in (
+    let number = its-row at-row (omega (arith, a .pre .spans .to-places, a .pre .spans .is-places)) in (
       omega (arith, i .inv .0),
       omega arith,
       walks-on at-row,

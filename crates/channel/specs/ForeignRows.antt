@@ -1,0 +1,34 @@
+-- Foreign rows (docs/RULES.md, "Taking a record", "Reading a place" and "Refusal numbers"): a record with another row
+-- than that of its place claims nothing, and no place is unreadable for its row. t is any table, pg any page, grown
+-- from an empty one or not, x what arrived, p any place.
+use Prim.Native.Nat.{ℕ}
+use mathlib.Core.Bool.{true}
+use mathlib.Core.List.{List, _∷_}
+use mathlib.Core.Logic.{_⊎_}
+use mathlib.Core.Path.{_≡_}
+use lib.IntN.{ℤ}
+use Rattle.tables.specs.Table.{rowOf}
+use Rattle.records.specs.Record.{placeIn, rowIn}
+use Rattle.rules.specs.Taking.{claims, takeLeaves}
+use Rattle.rules.specs.Judging.{judgeAt, reasonOf}
+use Rattle.rules.specs.Reading.{readSays, coefficientSays}
+use Rattle.rules.specs.Tallying.{answerAt}
+use Rattle.text.specs.Text.{placeText}
+use Rattle.report.specs.Listing.{lineAt}
+
+-- what is said of a place gives the reason 9
+abbrev pub TellsNine : List ℕ → Type 0
+TellsNine says = (answer : ℕ) × (more : List ℕ) × (says ≡ 0 ∷ answer ∷ 9 ∷ more)
+
+pub record ForeignRows : Type 0 where
+  -- what claims a place has its row
+  pub own-row : (t x : List ℕ) (p : ℕ) → claims t x p ≡ true → rowIn x ≡ rowOf t p
+  -- a record with a foreign row leaves every page as it was
+  pub changes-nothing : (t pg x : List ℕ) → (rowIn x ≡ rowOf t (placeIn x) → ⊥) → takeLeaves t pg x ≡ pg
+  -- neither reader gives the reason 9
+  pub read : (t pg : List ℕ) (p : ℕ) (out : List ℤ) → TellsNine (readSays t pg p out) → ⊥
+  pub coefficient : (t pg : List ℕ) (p i : ℕ) → TellsNine (coefficientSays t pg p i) → ⊥
+  -- what the tally counts as unreadable has the reason 10 or 14
+  pub tally : (t pg : List ℕ) (p : ℕ) → answerAt t pg p ≡ 4 → (reasonOf (judgeAt t pg p) ≡ 10) ⊎ (reasonOf (judgeAt t pg p) ≡ 14)
+  -- and no line says `unreadable 9`
+  pub line : (t pg : List ℕ) (p : ℕ) (q : List ℤ) → lineAt t pg p ≡ placeText p 4 9 q → ⊥

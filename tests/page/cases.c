@@ -1,0 +1,96 @@
+/* A line of the cases: what is lent, and what is expected. */
+
+#include "page.h"
+
+enum { BITS_SIZE = 4 };
+
+const char *const call_words[CALLS] = {"take ", "read ", "coefficient ", "tally "};
+
+/* The lengths of the lists that refusals are: 7 names the row, and 12 of the tally the place. */
+static const uint8_t refusals[CALLS][MOST_REFUSAL + 1] = {
+    [OF_TAKE] = {[7] = 2, [4] = 1, [8] = 1, [9] = 1, [12] = 1},
+    [OF_READ] = {[7] = 2, [8] = 1, [4] = 1, [12] = 1},
+    [OF_COEFFICIENT] = {[7] = 2, [8] = 1, [4] = 1, [13] = 1, [12] = 1},
+    [OF_TALLY] = {[7] = 2, [4] = 1, [12] = 2},
+};
+
+static uint64_t read_next_number(struct text *text)
+{
+    read_word(text, " ");
+    return read_number(text);
+}
+
+/* The page before the call, which is also what a refusal must leave. */
+static void read_page(struct text *text, struct page_case *to)
+{
+    read_word(text, " ");
+    fill_page(&to->page, to->after, read_bytes(text, to->after, sizeof to->after));
+}
+
+/* What the call is lent behind the table. */
+static void read_lent(struct text *text, struct page_case *to)
+{
+    const int has_place = to->call == OF_READ || to->call == OF_COEFFICIENT;
+    to->place = has_place ? read_next_number(text) : 0;
+    read_page(text, to);
+    to->number = has_place ? read_next_number(text) : 0;
+    read_word(text, " ");
+    if (to->call == OF_TAKE) {
+        to->arrival.length = read_bytes(text, to->arrival.bytes, sizeof to->arrival.bytes);
+        read_word(text, " ");
+    }
+}
+
+static void read_page_after(struct text *text, struct page_case *to)
+{
+    if (read_bytes(text, to->after, sizeof to->after) != to->page.size)
+        malformed(text, "the page then is not as long as before");
+}
+
+static void read_point(struct text *text, struct page_case *to)
+{
+    if (to->number > MOST_LENGTH)
+        malformed(text, "an output that is too long is answered");
+    for (uint64_t i = 0; i < to->number; i++) {
+        read_word(text, " ");
+        to->point[i] = read_coordinate(text);
+    }
+}
+
+/* A value is there where a point is. */
+static void read_bits(struct text *text, struct page_case *to)
+{
+    uint8_t bytes[BITS_SIZE] = {0};
+    const uint64_t word = to->expected.items[1];
+    read_word(text, " ");
+    if (read_bytes(text, bytes, sizeof bytes) != (word == SOUND || word == MENDED ? sizeof bytes : 0))
+        malformed(text, "a value where there is none, or none where there is one");
+    to->bits = (uint32_t)(two_bytes(bytes) * 65536 + two_bytes(bytes + 2));
+}
+
+/* The answer and the reason, and what comes with them. */
+static void read_reading(struct text *text, struct page_case *to)
+{
+    to->expected.items[1] = read_one_of(text, reading_words, READINGS);
+    to->expected.items[2] = read_next_number(text);
+    (to->call == OF_READ ? read_point : read_bits)(text, to);
+}
+
+static void read_counts(struct text *text, struct page_case *to)
+{
+    to->expected.items[1] = read_number(text);
+    for (int i = 1; i < READINGS; i++)
+        to->expected.items[1 + i] = read_next_number(text);
+}
+
+void read_case(struct text *text, struct page_case *to)
+{
+    typedef void read_rest(struct text *text, struct page_case *to);
+    static read_rest *const answered[CALLS] = {read_page_after, read_reading, read_reading, read_counts};
+    to->call = (enum of_call)read_one_of(text, call_words, CALLS);
+    read_table(text, &to->table);
+    read_lent(text, to);
+    to->bits = 0;
+    if (read_answer(text, &to->expected, refusals[to->call]))
+        answered[to->call](text, to);
+}

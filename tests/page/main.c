@@ -1,0 +1,86 @@
+/* Holds take, read, coefficient and the tally to stored cases: their answers, what they name, and every byte of all
+   that they are lent. The rules of the second program are held to the same cases. Arguments: the file, and how many
+   cases it has. The first difference ends the test with status 1, and so does a line that is no case, or another number
+   of cases. */
+
+#include "../second/kinds/lent_calls.h"
+#include "../second/probe.h"
+#include "page.h"
+
+#include <stdio.h>
+
+static uint64_t refused[CALLS][MOST_REFUSAL + 1]; /* 0 for what is answered */
+
+/* What the second program answers. */
+static void hold_list(const char *name, struct list own, struct list wanted)
+{
+    for (uint64_t item = 0; item < ITEMS; item++)
+        own_figure(name, own.items[item], wanted.items[item]);
+}
+
+/* The second program makes its own copy of the page what the calls must make of theirs. */
+static void hold_take(const char *name, struct page_case *held)
+{
+    uint8_t before[CELL_SIZE];
+    copy_named(&held->page, &held->arrival, before);
+    hold_list(name, take(&held->table, &held->page, &held->arrival), held->expected);
+    for (uint64_t i = 0; i < held->page.size; i++)
+        own_figure(name, cell_at(&held->page, 0)[i], held->after[i]);
+    expect_take(name, probe_take, &(struct taking){&held->table, &held->page, &held->arrival, before, held->expected});
+}
+
+static void hold_read(const char *name, struct page_case *held)
+{
+    const struct question question = {&held->table, &held->page, held->place, held->number};
+    int32_t point[MOST_LENGTH];
+    hold_list(name, read_place(&question, point), held->expected);
+    for (uint64_t i = 0; held->expected.items[0] == 0 && i < held->number; i++)
+        own_figure(name, (uint64_t)point[i], (uint64_t)held->point[i]);
+    expect_read(name, probe_read, &question, held->expected, held->point);
+}
+
+static void hold_coefficient(const char *name, struct page_case *held)
+{
+    const struct question question = {&held->table, &held->page, held->place, held->number};
+    uint32_t bits;
+    hold_list(name, coefficient(&question, &bits), held->expected);
+    own_figure(name, bits, held->bits);
+    expect_coefficient(name, probe_coefficient, probe_coefficient_value, &question, held->expected, held->bits);
+}
+
+static void hold_tally(const char *name, struct page_case *held)
+{
+    hold_list(name, tally(&held->table, &held->page), held->expected);
+    expect_tally(name, probe_tally, &held->table, &held->page, held->expected);
+}
+
+static void hold(struct text *text, const char *name)
+{
+    typedef void hold_call(const char *name, struct page_case *held);
+    static hold_call *const calls[CALLS] = {hold_take, hold_read, hold_coefficient, hold_tally};
+    static struct page_case held;
+    read_case(text, &held);
+    calls[held.call](name, &held);
+    refused[held.call][held.expected.items[0]]++;
+}
+
+/* Of each call how many cases are answered, and how many are refused with each number. */
+static void print_held(enum of_call call)
+{
+    printf("%s%lu answered", call_words[call], refused[call][0]);
+    for (int number = 1; number <= MOST_REFUSAL; number++)
+        if (refused[call][number] > 0)
+            printf(", %lu refused with %d", refused[call][number], number);
+    printf("\n");
+}
+
+int main(int words, char **word)
+{
+    count_points();
+    count_patterns_and_shapes();
+    const uint64_t cases = hold_lines(words, word, hold);
+    for (enum of_call call = 0; call < CALLS; call++)
+        print_held(call);
+    printf("agreed: %lu cases\n", cases);
+    return 0;
+}

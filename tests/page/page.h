@@ -1,0 +1,29 @@
+/* The parts of the test that holds the calls of the page to stored cases; cases.txt tells what a line of them has. */
+
+#ifndef PAGE_PAGE_H
+#define PAGE_PAGE_H
+
+#include "../fields/fields.h"
+
+/* The calls that there are cases of. */
+enum of_call { OF_TAKE, OF_READ, OF_COEFFICIENT, OF_TALLY, CALLS };
+
+/* What a case lends, and what it expects. */
+struct page_case {
+    enum of_call call;
+    struct table table;
+    struct page page;       /* as it is before the call */
+    struct arrival arrival; /* what take is lent */
+    uint64_t place;         /* for read and coefficient */
+    uint64_t number;        /* read: the length of the output; coefficient: the coordinate */
+    struct list expected;
+    uint8_t after[CELL_SIZE * MOST_PLACES]; /* take: what the page must hold then, on a refusal too */
+    int32_t point[MOST_LENGTH];             /* read: what the output must hold, where there is no refusal */
+    uint32_t bits;                          /* coefficient: those of the value, 0 where there is none */
+};
+
+/* cases.c: a line of the text, which is a case */
+extern const char *const call_words[CALLS];
+void read_case(struct text *text, struct page_case *to);
+
+#endif

@@ -1,0 +1,236 @@
+/* One comparison of take, of read, of coefficient or of the tally with what is expected of it: by each item of its
+   list, and at times by one past the end. What a call is lent lies among guards, and every byte of it is compared
+   afterwards: only the page of take and the output of read may change, and only where there is no refusal. */
+
+#include "../draws/draws.h"
+#include "../probe.h" /* for REFUSED alone */
+#include "lent_calls.h"
+
+#include <stdio.h>
+#include <stdlib.h>
+#include <string.h>
+
+enum { ITEMS_OF_READING = 3 };
+
+/* Any item, past the end of every list or not. */
+static uint64_t any_item(void)
+{
+    const uint64_t items[] = {ITEMS, ITEMS + 1, 256, 65536, TWO_TO_32, TWO_TO_32 + 1, TWO_TO_63, UINT64_MAX};
+    return chance_below(2) ? chance_below(ITEMS) : items[chance_below(ENTRIES(items))];
+}
+
+static uint64_t item_of(struct list list, uint64_t which)
+{
+    return which < ITEMS ? list.items[which] : 0;
+}
+
+/* The call was printed before. */
+static _Noreturn void wrong_item(struct list expected, uint64_t which, uint64_t got)
+{
+    const uint64_t item = item_of(expected, which);
+    if (which == 0)
+        differ(item ? REFUSED + item : 0, got ? REFUSED + got : 0);
+    printf(", item %lu of its list: expected %lu, got %lu\n", which, item, got);
+    exit(1);
+}
+
+/* The bits of an f32; nothing else is done with it. */
+static uint32_t bits_of_float(float value)
+{
+    const union {
+        float value;
+        uint32_t bits;
+    } as = {value};
+    return as.bits;
+}
+
+/* What has no elements is lent as a null pointer where `by_null` says so. */
+static const uint8_t *lent_table(const struct table *table, const struct table_room *room, int by_null)
+{
+    return by_null && table->size == 0 ? 0 : room->bytes;
+}
+
+static const uint8_t *lent_page(const struct page *page, int by_null)
+{
+    return by_null && page->size == 0 ? 0 : page->lent[0] + GUARDS;
+}
+
+/* A call with one copy of the page, for one item. */
+static void ask_take(const char *name, take_call *call, const struct taking *taking, int lent, uint64_t which, int by_null)
+{
+    const struct arrival *arrival = taking->arrival;
+    struct table_room table = table_among_guards(taking->table);
+    struct arrival_room room = arrival_among_guards(arrival);
+    struct page *page = taking->page;
+    const uint64_t got = call(lent_table(taking->table, &table, by_null), taking->table->size,
+                              by_null && page->size == 0 ? 0 : page->lent[lent] + GUARDS, page->size,
+                              by_null && arrival->length == 0 ? 0 : room.bytes, arrival->length, which);
+    if (got != item_of(taking->expected, which)) {
+        print_taking(name, taking);
+        wrong_item(taking->expected, which, got);
+    }
+    compare_taking(name, taking, lent, &table, &room);
+}
+
+/* A call with each copy of the page. After a refusal both are as they were, and one can be lent again. */
+static uint64_t call_take(const char *name, take_call *call, const struct taking *taking, int by_null)
+{
+    const int is_refused = taking->expected.items[0] != 0;
+    ask_take(name, call, taking, 0, 0, by_null);
+    ask_take(name, call, taking, 1, is_refused || chance_below(2) ? 1 : any_item(), by_null);
+    if (is_refused)
+        ask_take(name, call, taking, 1, any_item(), by_null);
+    return is_refused ? 3 : 2;
+}
+
+uint64_t expect_take(const char *name, take_call *call, const struct taking *taking)
+{
+    const int is_any_empty = taking->table->size == 0 || taking->page->size == 0 || taking->arrival->length == 0;
+    uint64_t calls = 0;
+    for (int by_null = 0; by_null <= is_any_empty; by_null++)
+        calls += call_take(name, call, taking, by_null);
+    return calls;
+}
+
+static void print_question(const char *name, const struct question *question, const char *what)
+{
+    print_table(name, question->table);
+    printf(", page of %lu bytes, place %lu", question->page->size, question->place);
+    if (question->place < question->page->places)
+        print_bytes(", its cell", cell_at(question->page, question->place), CELL_SIZE);
+    printf(", %s %lu", what, question->number);
+}
+
+/* The lent table and page after calls that may not write there. */
+static void compare_lent(const char *name, const struct question *question, const struct table_room *table)
+{
+    const struct table_room before = table_among_guards(question->table);
+    const int is_table_same = same_table(table, &before);
+    if (is_table_same && is_page_as_it_must_be(question->page, 0))
+        return;
+    print_question(name, question, "output of, or coordinate,");
+    if (!is_table_same)
+        end("something is written at the table");
+    wrong_page(question->page, 0);
+}
+
+/* The output of read, after a call that must have written so many numbers of the point. */
+static void compare_output(const char *name, const struct question *question, const struct point_room *room, const int32_t *point,
+                           uint64_t length)
+{
+    const struct point_room wanted = garbage_around(point, length);
+    if (same_points(room, &wanted))
+        return;
+    print_question(name, question, "output of");
+    if (length == 0)
+        end("the output is written on a refusal");
+    if (memcmp(room->cells + GUARDS, point, length * sizeof *point) == 0)
+        end("something is written beside the output");
+    print_point(": expected", point, length);
+    print_point(", got", room->cells + GUARDS, length);
+    printf("\n");
+    exit(1);
+}
+
+/* A call for each item. */
+static uint64_t call_read(const char *name, read_call *call, const struct question *question, struct list expected,
+                          const int32_t *point, int by_null)
+{
+    struct table_room table = table_among_guards(question->table);
+    const struct page *page = question->page;
+    for (uint64_t i = 0; i <= ITEMS_OF_READING; i++) {
+        const uint64_t which = i < ITEMS_OF_READING ? i : any_item();
+        struct point_room room = garbage();
+        const uint64_t got = call(lent_table(question->table, &table, by_null), question->table->size, lent_page(page, by_null),
+                                  page->size, question->place, by_null && question->number == 0 ? 0 : room.cells + GUARDS,
+                                  question->number, which);
+        if (got != item_of(expected, which)) {
+            print_question(name, question, "output of");
+            wrong_item(expected, which, got);
+        }
+        compare_output(name, question, &room, point, expected.items[0] == 0 ? question->number : 0);
+    }
+    compare_lent(name, question, &table);
+    return ITEMS_OF_READING + 1;
+}
+
+uint64_t expect_read(const char *name, read_call *call, const struct question *question, struct list expected, const int32_t *point)
+{
+    const int is_any_empty = question->table->size == 0 || question->page->size == 0 || question->number == 0;
+    uint64_t calls = 0;
+    for (int by_null = 0; by_null <= is_any_empty; by_null++)
+        calls += call_read(name, call, question, expected, point, by_null);
+    return calls;
+}
+
+/* A call for each item. */
+static uint64_t call_coefficient(const char *name, coefficient_call *call, const struct question *question, struct list expected,
+                                 int by_null)
+{
+    struct table_room table = table_among_guards(question->table);
+    const struct page *page = question->page;
+    for (uint64_t i = 0; i <= ITEMS_OF_READING; i++) {
+        const uint64_t which = i < ITEMS_OF_READING ? i : any_item();
+        const uint64_t got = call(lent_table(question->table, &table, by_null), question->table->size, lent_page(page, by_null),
+                                  page->size, question->place, question->number, which);
+        if (got != item_of(expected, which)) {
+            print_question(name, question, "coordinate");
+            wrong_item(expected, which, got);
+        }
+    }
+    compare_lent(name, question, &table);
+    return ITEMS_OF_READING + 1;
+}
+
+static uint64_t call_value(const char *name, value_call *call, const struct question *question, uint32_t bits, int by_null)
+{
+    struct table_room table = table_among_guards(question->table);
+    const struct page *page = question->page;
+    const uint32_t got = bits_of_float(call(lent_table(question->table, &table, by_null), question->table->size,
+                                            lent_page(page, by_null), page->size, question->place, question->number));
+    if (got != bits) {
+        print_question(name, question, "coordinate");
+        printf(", the value: expected the bits %08x, got %08x\n", bits, got);
+        exit(1);
+    }
+    compare_lent(name, question, &table);
+    return 1;
+}
+
+uint64_t expect_coefficient(const char *name, coefficient_call *call, value_call *value, const struct question *question,
+                            struct list expected, uint32_t bits)
+{
+    const int is_any_empty = question->table->size == 0 || question->page->size == 0;
+    uint64_t calls = 0;
+    for (int by_null = 0; by_null <= is_any_empty; by_null++)
+        calls += call_coefficient(name, call, question, expected, by_null) + call_value(name, value, question, bits, by_null);
+    return calls;
+}
+
+/* A call for each item. */
+static uint64_t call_tally(const char *name, tally_call *call, const struct table *table, const struct page *page,
+                           struct list expected, int by_null)
+{
+    struct table_room room = table_among_guards(table);
+    const struct question whole = {.table = table, .page = page, .place = UINT64_MAX};
+    for (uint64_t i = 0; i <= ITEMS; i++) {
+        const uint64_t which = i < ITEMS ? i : any_item();
+        const uint64_t got = call(lent_table(table, &room, by_null), table->size, lent_page(page, by_null), page->size, which);
+        if (got != item_of(expected, which)) {
+            print_table(name, table);
+            printf(", page of %lu bytes", page->size);
+            wrong_item(expected, which, got);
+        }
+    }
+    compare_lent(name, &whole, &room);
+    return ITEMS + 1;
+}
+
+uint64_t expect_tally(const char *name, tally_call *call, const struct table *table, const struct page *page, struct list expected)
+{
+    const int is_any_empty = table->size == 0 || page->size == 0;
+    uint64_t calls = 0;
+    for (int by_null = 0; by_null <= is_any_empty; by_null++)
+        calls += call_tally(name, call, table, page, expected, by_null);
+    return calls;
+}

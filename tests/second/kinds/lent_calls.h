@@ -1,0 +1,28 @@
+/* One comparison of a call of the page with what is expected of it. The call is handed over, so that nothing here names
+   what is under test. */
+
+#ifndef SECOND_LENT_CALLS_H
+#define SECOND_LENT_CALLS_H
+
+#include "lent.h"
+
+/* The calls, as probe.h declares them. */
+typedef uint64_t take_call(const uint8_t *table, uint64_t table_length, uint8_t *page, uint64_t page_length, const uint8_t *record,
+                           uint64_t record_length, uint64_t which);
+typedef uint64_t read_call(const uint8_t *table, uint64_t table_length, const uint8_t *page, uint64_t page_length, uint64_t place,
+                           int32_t *out, uint64_t out_length, uint64_t which);
+typedef uint64_t coefficient_call(const uint8_t *table, uint64_t table_length, const uint8_t *page, uint64_t page_length,
+                                  uint64_t place, uint64_t coordinate, uint64_t which);
+typedef float value_call(const uint8_t *table, uint64_t table_length, const uint8_t *page, uint64_t page_length, uint64_t place,
+                         uint64_t coordinate);
+typedef uint64_t tally_call(const uint8_t *table, uint64_t table_length, const uint8_t *page, uint64_t page_length, uint64_t which);
+
+/* lent_calls.c: the name is what a difference is told with; how many calls it took is returned. The page's own copy is
+   what the page must hold after the call. */
+uint64_t expect_take(const char *name, take_call *call, const struct taking *taking);
+uint64_t expect_read(const char *name, read_call *call, const struct question *question, struct list expected, const int32_t *point);
+uint64_t expect_coefficient(const char *name, coefficient_call *call, value_call *value, const struct question *question,
+                            struct list expected, uint32_t bits);
+uint64_t expect_tally(const char *name, tally_call *call, const struct table *table, const struct page *page, struct list expected);
+
+#endif
