@@ -1,5 +1,5 @@
 pub mod Pascal
-pub mod Rows
+pub mod Arms
 pub mod Sums
 pub mod Upper
 pub mod Volume

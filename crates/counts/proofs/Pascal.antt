@@ -1,9 +1,10 @@
 -- Binomials, pattern counts, shape counts and sign counts, law by law, for all whole numbers:
---     D-zero, D-addition, D-small     D(0,l) = 1; binomial addition (eq. 17); 0 where s exceeds l
+--     D-zero, D-addition, D-small     D(0,l) = 1; binomial addition (eq. 17); 0 where s exceeds l, as binomial-small
 --     S-none, S-addition, S-small     S(0,k) for k above 0; the same addition for shapes; 0 where s exceeds k
 --     B-zero, B-next                  one sign of no coordinates; twice as many with one coordinate more
 --     binomial-bound, D-bound, S-bound     binomial(n,r) is at most 2^n, so D(s,l) is at most 2^l and S(s,k) at most
 --                                          2^(k-1)
+--     binomial-half                        above n = 0, no binomial(n,r) is more than half of 2^n
 use Prim.Native.Nat.{ℕ, zero, suc, _+_, _^_, _≤_, _<_}
 use mathlib.Core.Path.{_≡_, refl}
 use native.Mathlib.Nat.{pow-suc}
@@ -19,7 +20,7 @@ pub D-addition : (s l : ℕ) → D (suc s) (suc l) ≡ D (suc s) l + D s l
 unfolding D binomial
 D-addition s l = refl
 
-binomial-small : (n r : ℕ) → n < r → binomial n r ≡ 0
+pub binomial-small : (n r : ℕ) → n < r → binomial n r ≡ 0
 unfolding binomial
 binomial-small n zero h = omega arith
 binomial-small zero (suc r) h = refl
@@ -64,6 +65,16 @@ binomial-bound zero (suc r) = omega arith
 binomial-bound (suc n) (suc r) =
     let a : binomial n (suc r) ≤ 2 ^ n = binomial-bound n (suc r) in
     let b : binomial n r ≤ 2 ^ n = binomial-bound n r in
+    omega (arith, pow-suc 2 n)
+
+pub binomial-half : (n r : ℕ) → binomial (suc n) r ≤ 2 ^ n
+unfolding binomial
+binomial-half n zero = pow-pos n
+binomial-half zero (suc zero) = omega arith
+binomial-half zero (suc (suc r)) = omega arith
+binomial-half (suc n) (suc r) =
+    let a : binomial (suc n) (suc r) ≤ 2 ^ n = binomial-half n (suc r) in
+    let b : binomial (suc n) r ≤ 2 ^ n = binomial-half n r in
     omega (arith, pow-suc 2 n)
 
 pub D-bound : (s l : ℕ) → D s l ≤ 2 ^ l

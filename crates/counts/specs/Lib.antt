@@ -1,4 +1,3 @@
 pub mod Counts
-pub mod Triangle
 pub mod Width
 pub mod Example

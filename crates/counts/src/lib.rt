@@ -1,6 +1,5 @@
 // The two numbers of a shell, as types of their own: a length is never taken for a radius (docs/RULES.md, "Points
 // and counts"). What is counted with them is defined in specs/, and its laws are in proofs/.
-pub mod inner;
 
 // The length l of a point: how many coordinates it has.
 pub struct Length(pub usize);

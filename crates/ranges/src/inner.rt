@@ -62,32 +62,20 @@ pub fn most_nonzero(length: Length, radius: Radius) -> usize
     }
 }
 
-// The stored binomial. Modulo 512, which changes none of the numbers, lets the compiler see that the last arm of
-// the table is not taken.
-fn binomial(n: usize, r: usize) -> u32
-    requires { ⌜ (n < 32) × (r < 16) ⌝ }
-    ensures { λ b. ⌜ b ≡ counted.binomial n r ⌝ }
-{
-    binomials::inner::entry((n * 16 + r) % 512)
-}
-
-// The pattern count D(s,l). Those of s = 16, which are not stored, are 1 for length 16 and 0 for the others.
+// The pattern count D(s,l), which is stored.
 pub fn pattern_count(s: usize, length: Length) -> u32
     requires { ⌜ (s ≤ 16) × (length .0 ≤ 16) ⌝ }
     ensures { λ r. ⌜ r ≡ D s (length .0) ⌝ }
 {
-    if s == 16 {
-        return (length.0 / 16) as u32;
-    }
-    binomial(length.0, s)
+    patterns::inner::look_up(s, length.0)
 }
 
-// The shape count S(s,k).
+// The shape count S(s,k), which is worked out.
 pub fn shape_count(s: usize, radius: Radius) -> u32
     requires { ⌜ (0 < s) × (s ≤ 16) × (0 < radius .0) × (radius .0 ≤ 32) ⌝ }
     ensures { λ r. ⌜ r ≡ S s (radius .0) ⌝ }
 {
-    binomial(radius.0 - 1, s - 1)
+    binomials::inner::binomial(radius.0 - 1, s - 1)
 }
 
 // The size R of the range for s: the points of the shell with s nonzero coordinates.

@@ -1,0 +1,4 @@
+pub mod ProductForm
+pub mod Mirror
+pub mod Largest
+pub mod Example

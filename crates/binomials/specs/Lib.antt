@@ -1,0 +1,2 @@
+pub mod ProductForm
+pub mod Example
