@@ -1,5 +1,6 @@
 /* Ours and plain C are asked the same. A difference, in the answer or in what a call is lent, is an error; else the
-   answer is returned, of quantize, take, read and send the refusal number, of collect how many takes are refused. */
+   answer is returned, of point, quantize, take, read and send the refusal number, of collect how many takes are
+   refused. */
 
 #include "bench.h"
 
@@ -8,7 +9,7 @@
 
 enum { ROOM = MOST_LENGTH + 1, GARBAGE = 0x5a }; /* the room for an output, or a record, that is too long */
 enum { LEAST_REFUSED = 300 };                    /* takes with each refusal */
-enum { ITEM_REFUSAL, ITEM_ANSWER, ITEM_REASON };
+enum { ITEM_REFUSAL, ITEM_ANSWER, ITEM_REASON, ITEM_DISTANCE, ITEM_NAMED = 1 };
 
 /* How often each call was compared, and how many of these comparisons were of refusals. */
 static struct {
@@ -55,15 +56,20 @@ uint64_t agree_on_index(struct shell shell, const int32_t *point, uint64_t point
     return ours;
 }
 
-uint32_t agree_on_point(struct shell shell, uint64_t index, uint64_t out_length)
+/* Of refusal 6 the distance is compared too. */
+uint64_t agree_on_point(struct shell shell, uint64_t index, uint64_t out_length)
 {
     int32_t one[ROOM], other[ROOM];
+    uint64_t ours[ITEM_NAMED + 1];
     __builtin_memset(one, GARBAGE, sizeof one);
     __builtin_memset(other, GARBAGE, sizeof other);
-    const uint32_t ours = probe_point(shell.length, shell.radius, index, one, out_length);
-    hold("point", ours, plain_point(shell.length, shell.radius, index, other, out_length), memcmp(one, other, sizeof one) == 0);
-    note(&compared.points, ours != 0);
-    return ours;
+    const struct plain_pointing plain = plain_point(shell.length, shell.radius, index, other, out_length);
+    for (uint64_t item = ITEM_REFUSAL; item <= ITEM_NAMED; item++)
+        ours[item] = probe_point(shell.length, shell.radius, index, one, out_length, item);
+    hold("point", ours[ITEM_REFUSAL], plain.refusal, memcmp(one, other, sizeof one) == 0);
+    hold("distance that point names", ours[ITEM_NAMED], plain.distance, 1);
+    note(&compared.points, plain.refusal != 0);
+    return plain.refusal;
 }
 
 uint32_t agree_on_quantize(const struct table *table, const struct coefficients *in, uint64_t record_length)
@@ -100,20 +106,21 @@ uint64_t agree_on_collect(const struct table *table, uint8_t *page, uint8_t *pag
     return ours;
 }
 
-/* Of an answer the number and the reason are compared too. */
+/* Of an answer the number, the reason and the distance are compared too. */
 uint64_t agree_on_read(const struct table *table, const uint8_t *page, uint64_t size, uint64_t place, uint64_t out_length)
 {
     int32_t one[ROOM], other[ROOM];
-    uint64_t ours[ITEM_REASON + 1];
+    uint64_t ours[ITEM_DISTANCE + 1];
     __builtin_memset(one, GARBAGE, sizeof one);
     __builtin_memset(other, GARBAGE, sizeof other);
     const struct plain_reading plain = plain_read(table->bytes, table->size, page, size, place, other, out_length);
-    for (uint64_t item = ITEM_REFUSAL; item <= ITEM_REASON; item++)
+    for (uint64_t item = ITEM_REFUSAL; item <= ITEM_DISTANCE; item++)
         ours[item] = probe_read(table->bytes, table->size, page, size, place, one, out_length, item);
     hold("read", ours[ITEM_REFUSAL], plain.refusal, memcmp(one, other, sizeof one) == 0);
     if (plain.refusal == 0) {
         hold("answer of read", ours[ITEM_ANSWER], plain.answer, 1);
         hold("reason of read", ours[ITEM_REASON], plain.reason, 1);
+        hold("distance of read", ours[ITEM_DISTANCE], plain.distance, 1);
     }
     note(&compared.places, plain.refusal != 0);
     return plain.refusal;

@@ -83,7 +83,7 @@ _Noreturn void fail(const char *what, const char *why);
 
 /* agreeing.c: one comparison each; their answer is returned. And how many there were. */
 uint64_t agree_on_index(struct shell shell, const int32_t *point, uint64_t point_length);
-uint32_t agree_on_point(struct shell shell, uint64_t index, uint64_t out_length);
+uint64_t agree_on_point(struct shell shell, uint64_t index, uint64_t out_length);
 uint32_t agree_on_quantize(const struct table *table, const struct coefficients *in, uint64_t record_length);
 uint64_t agree_on_take(const struct table *table, uint8_t *page, uint8_t *page_of_plain, uint64_t size, const struct record *in);
 uint64_t agree_on_collect(const struct table *table, uint8_t *page, uint8_t *page_of_plain, uint64_t size, const uint8_t *run,
@@ -100,7 +100,8 @@ void compare_calls(void);
 
 /* empty.c: a call of each type that does nothing */
 uint64_t empty_index(uint64_t length, uint64_t radius, const int32_t *point, uint64_t point_length);
-uint32_t empty_point(uint64_t length, uint64_t radius, uint64_t index, int32_t *out, uint64_t out_length);
+struct plain_pointing empty_point(uint64_t length, uint64_t radius, uint64_t index, int32_t *out, uint64_t out_length);
+uint64_t empty_point_item(uint64_t length, uint64_t radius, uint64_t index, int32_t *out, uint64_t out_length, uint64_t which);
 uint32_t empty_quantize(const uint8_t *table, uint64_t table_length, uint64_t place, const float *coefficients,
                         uint64_t coefficients_length, uint8_t *record, uint64_t record_length);
 uint32_t empty_take(const uint8_t *table, uint64_t table_length, uint8_t *page, uint64_t page_length, const uint8_t *record,

@@ -8,9 +8,15 @@ uint64_t empty_index(uint64_t length, uint64_t radius, const int32_t *point, uin
     return 0;
 }
 
-uint32_t empty_point(uint64_t length, uint64_t radius, uint64_t index, int32_t *out, uint64_t out_length)
+struct plain_pointing empty_point(uint64_t length, uint64_t radius, uint64_t index, int32_t *out, uint64_t out_length)
 {
     (void)length, (void)radius, (void)index, (void)out, (void)out_length;
+    return (struct plain_pointing){0};
+}
+
+uint64_t empty_point_item(uint64_t length, uint64_t radius, uint64_t index, int32_t *out, uint64_t out_length, uint64_t which)
+{
+    (void)length, (void)radius, (void)index, (void)out, (void)out_length, (void)which;
     return 0;
 }
 

@@ -5,7 +5,8 @@
 #include <stdio.h>
 
 typedef uint64_t index_call(uint64_t length, uint64_t radius, const int32_t *point, uint64_t point_length);
-typedef uint32_t point_call(uint64_t length, uint64_t radius, uint64_t index, int32_t *out, uint64_t out_length);
+typedef struct plain_pointing point_call(uint64_t length, uint64_t radius, uint64_t index, int32_t *out, uint64_t out_length);
+typedef uint64_t point_item_call(uint64_t length, uint64_t radius, uint64_t index, int32_t *out, uint64_t out_length, uint64_t which);
 
 static struct shell shell; /* the one that is measured */
 static uint64_t indices[INPUTS];
@@ -24,6 +25,14 @@ static void run_point(any_call *call, uint64_t inputs)
     point_call *const point = (point_call *)call;
     for (uint64_t i = 0; i < inputs; i++)
         point(shell.length, shell.radius, indices[i], out, shell.length);
+}
+
+static void run_point_item(any_call *call, uint64_t inputs)
+{
+    static int32_t out[MOST_LENGTH];
+    point_item_call *const point = (point_item_call *)call;
+    for (uint64_t i = 0; i < inputs; i++)
+        point(shell.length, shell.radius, indices[i], out, shell.length, 0);
 }
 
 /* Any index below N, and its point, which must lead back. */
@@ -49,7 +58,7 @@ static void bench_shell(void)
                             COUNTED});
     snprintf(what, sizeof what, "point, length %lu, radius %lu", shell.length, shell.radius);
     measure((struct rivals){what,
-                            {run_point, (any_call *)probe_point, (any_call *)empty_point},
+                            {run_point_item, (any_call *)probe_point, (any_call *)empty_point_item},
                             {run_point, (any_call *)plain_point, (any_call *)empty_point},
                             COUNTED});
 }

@@ -21,7 +21,8 @@ static uint64_t beside(uint64_t right)
     return chance_below(8) ? right : right - 1 + chance_below(3);
 }
 
-/* A shell, usable or not, and a vector whose magnitudes often sum to its radius. */
+/* A shell, usable or not, a vector whose magnitudes often sum to its radius, and indices, one of them far past the
+   end. */
 static void try_points(void)
 {
     const struct shell shell = {chance_below(MOST_LENGTH + 2), chance_below(MOST_RADIUS + 2)};
@@ -35,6 +36,7 @@ static void try_points(void)
         point[chance_below(shell.length + 1)] = INT32_MIN;
     agree_on_index(shell, point, beside(shell.length));
     agree_on_point(shell, chance_below(2) ? beside(n) : chance_below(n + 1), beside(shell.length));
+    agree_on_point(shell, UINT64_MAX - n, shell.length);
 }
 
 static struct asked asked_by_chance(void)

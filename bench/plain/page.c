@@ -81,7 +81,7 @@ uint64_t plain_collect(const uint8_t *table, uint64_t table_length, uint8_t *pag
 static struct plain_reading zeros(uint32_t answer, uint32_t reason, uint64_t length, int32_t *out)
 {
     __builtin_memset(out, 0, length * sizeof *out);
-    return (struct plain_reading){0, answer, reason};
+    return (struct plain_reading){0, answer, reason, 0};
 }
 
 static struct plain_reading look_at_held(const uint8_t *row, const uint8_t *record, int32_t *out)
@@ -90,12 +90,12 @@ static struct plain_reading look_at_held(const uint8_t *row, const uint8_t *reco
     const uint64_t index = (uint64_t)pair_at(record + AT_CODEWORD) << 16 | pair_at(record + AT_CODEWORD + 2);
     if (number >= row[AT_NUMBER_OF_RADII])
         return zeros(UNREADABLE, 10, length, out);
-    const uint64_t radius = row[AT_RADII + number], power = counts.powers[length][radius];
+    const uint64_t radius = row[AT_RADII + number], power = counts.powers[length][radius], n = counts.points[length][radius];
     if (index >= power)
         return zeros(UNREADABLE, 14, length, out);
-    const int is_sound = index < counts.points[length][radius];
+    const int is_sound = index < n;
     plain_unrank(length, radius, is_sound ? index : index - power / 2, out);
-    return (struct plain_reading){0, is_sound ? SOUND : MENDED, 0};
+    return (struct plain_reading){0, is_sound ? SOUND : MENDED, 0, is_sound ? 0 : (uint32_t)(index - n)};
 }
 
 /* Refusal 12, or what the cell shows, with its point or zeros in `out`. */

@@ -33,11 +33,18 @@ struct row_ends {
     uint32_t ends[MOST_ROWS + 1];
 };
 
-/* The refusal or 0; the answer and the reason of an unreadable one. */
+/* The refusal or 0; the distance of 6. */
+struct plain_pointing {
+    uint32_t refusal;
+    uint64_t distance;
+};
+
+/* The refusal or 0; the answer, the reason of an unreadable one, and the distance of a mended one. */
 struct plain_reading {
     uint32_t refusal;
     uint32_t answer;
     uint32_t reason;
+    uint32_t distance;
 };
 
 /* The refusal or 0; the place and the coordinate of 11. */
@@ -54,7 +61,7 @@ void plain_begin(void);
 uint64_t plain_rank(uint64_t length, uint64_t radius, const int32_t *point);
 void plain_unrank(uint64_t length, uint64_t radius, uint64_t index, int32_t *out);
 uint64_t plain_index(uint64_t length, uint64_t radius, const int32_t *point, uint64_t point_length);
-uint32_t plain_point(uint64_t length, uint64_t radius, uint64_t index, int32_t *out, uint64_t out_length);
+struct plain_pointing plain_point(uint64_t length, uint64_t radius, uint64_t index, int32_t *out, uint64_t out_length);
 
 /* table.c */
 struct survey plain_survey(const uint8_t *table, uint64_t table_length, uint64_t place);

@@ -82,15 +82,16 @@ uint64_t plain_index(uint64_t length, uint64_t radius, const int32_t *point, uin
     return point_length == length ? plain_rank(length, radius, point) : REFUSED + 4;
 }
 
-uint32_t plain_point(uint64_t length, uint64_t radius, uint64_t index, int32_t *out, uint64_t out_length)
+struct plain_pointing plain_point(uint64_t length, uint64_t radius, uint64_t index, int32_t *out, uint64_t out_length)
 {
     const uint32_t refusal = refusal_of_shell(length, radius);
     if (refusal)
-        return refusal;
+        return (struct plain_pointing){.refusal = refusal};
     if (out_length != length)
-        return 4;
-    if (index >= counts.points[length][radius])
-        return 6;
+        return (struct plain_pointing){.refusal = 4};
+    const uint64_t n = counts.points[length][radius];
+    if (index >= n)
+        return (struct plain_pointing){6, index - n};
     plain_unrank(length, radius, index, out);
-    return 0;
+    return (struct plain_pointing){0};
 }

@@ -94,7 +94,8 @@ static char *put_answer(char *to, struct plain_reading reading)
         size_t size;
     } answers[READINGS] = {{" sound ", 7}, {" mended ", 8}, {" missing ", 9}, {" contested ", 11}, {" unreadable ", 12}};
     __builtin_memcpy(to, answers[reading.answer].word, sizeof answers->word);
-    return put_small(to + answers[reading.answer].size, reading.reason);
+    to += answers[reading.answer].size;
+    return reading.answer == MENDED ? put_number(to, reading.distance) : put_small(to, reading.reason);
 }
 
 static void put_line(uint64_t place, uint64_t length, struct plain_reading reading, const int32_t *point)

@@ -101,7 +101,7 @@ uint64_t read_number(struct text *text)
 }
 
 /* With a minus sign where it is negative. */
-int32_t read_coordinate(struct text *text)
+static int32_t read_coordinate(struct text *text)
 {
     const int is_minus = is_next(text, '-');
     text->at += is_minus;
@@ -109,6 +109,18 @@ int32_t read_coordinate(struct text *text)
     if (number > INT32_MAX)
         malformed(text, "a coordinate of more than 32 bits");
     return is_minus ? -(int32_t)number : (int32_t)number;
+}
+
+/* All that an output of this length must hold. */
+void read_coordinates(struct text *text, int32_t *point, uint64_t length)
+{
+    if (length > MOST_LENGTH)
+        malformed(text, "an output that is too long is answered");
+    for (uint64_t i = 0; i < length; i++) {
+        if (i > 0)
+            read_word(text, " ");
+        point[i] = read_coordinate(text);
+    }
 }
 
 /* Whether the call is answered, with `ok` and what follows; else its refusal and the values that it names, as the list

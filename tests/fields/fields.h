@@ -20,7 +20,7 @@ uint64_t read_one_of(struct text *text, const char *const *words, uint64_t numbe
 uint64_t read_bytes(struct text *text, uint8_t *bytes, uint64_t most);
 void read_table(struct text *text, struct table *to);
 uint64_t read_number(struct text *text);
-int32_t read_coordinate(struct text *text);
+void read_coordinates(struct text *text, int32_t *point, uint64_t length);
 int read_answer(struct text *text, struct list *refusal, const uint8_t *lengths);
 
 /* lines.c: holds each case of a file, by the arguments of a program: the file, and how many cases it has, which is

@@ -49,12 +49,8 @@ static void read_page_after(struct text *text, struct page_case *to)
 
 static void read_point(struct text *text, struct page_case *to)
 {
-    if (to->number > MOST_LENGTH)
-        malformed(text, "an output that is too long is answered");
-    for (uint64_t i = 0; i < to->number; i++) {
-        read_word(text, " ");
-        to->point[i] = read_coordinate(text);
-    }
+    read_word(text, " ");
+    read_coordinates(text, to->point, to->number);
 }
 
 /* A value is there where a point is. */
@@ -68,11 +64,21 @@ static void read_bits(struct text *text, struct page_case *to)
     to->bits = (uint32_t)(two_bytes(bytes) * 65536 + two_bytes(bytes + 2));
 }
 
-/* The answer and the reason, and what comes with them. */
+/* A mended place alone has one. */
+static uint64_t read_distance(struct text *text, uint64_t word)
+{
+    if (word == MENDED)
+        return read_next_number(text);
+    read_word(text, " -");
+    return 0;
+}
+
+/* The answer, the reason and the distance, and what comes with them. */
 static void read_reading(struct text *text, struct page_case *to)
 {
     to->expected.items[1] = read_one_of(text, reading_words, READINGS);
     to->expected.items[2] = read_next_number(text);
+    to->expected.items[3] = read_distance(text, to->expected.items[1]);
     (to->call == OF_READ ? read_point : read_bits)(text, to);
 }
 

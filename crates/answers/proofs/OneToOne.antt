@@ -33,7 +33,7 @@ byNumber vs =
     ∷ refusal.ShellTooLarge
     ∷ refusal.BufferLength
     ∷ refusal.MagnitudeSum
-    ∷ refusal.IndexPastEnd
+    ∷ refusal.IndexPastEnd (getD vs 0 0)
     ∷ refusal.BadTable (getD vs 0 0)
     ∷ refusal.NoSuchPlace
     ∷ refusal.ForeignRow
@@ -65,7 +65,7 @@ said refusal.RadiusAbove = says-back 1 [] refl refl (lit≤ tt)
 said refusal.ShellTooLarge = says-back 2 [] refl refl (lit≤ tt)
 said refusal.BufferLength = says-back 3 [] refl refl (lit≤ tt)
 said refusal.MagnitudeSum = says-back 4 [] refl refl (lit≤ tt)
-said refusal.IndexPastEnd = says-back 5 [] refl refl (lit≤ tt)
+said (refusal.IndexPastEnd distance) = says-back 5 (distance ∷ []) refl refl (lit≤ tt)
 said (refusal.BadTable row) = says-back 6 (row ∷ []) refl refl (lit≤ tt)
 said refusal.NoSuchPlace = says-back 7 [] refl refl (lit≤ tt)
 said refusal.ForeignRow = says-back 8 [] refl refl (lit≤ tt)

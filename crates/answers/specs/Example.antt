@@ -41,7 +41,7 @@ pub record Example : Type 0 where
   pub refusal-3 : numberOf refusal.ShellTooLarge ≡ 3
   pub refusal-4 : numberOf refusal.BufferLength ≡ 4
   pub refusal-5 : numberOf refusal.MagnitudeSum ≡ 5
-  pub refusal-6 : numberOf refusal.IndexPastEnd ≡ 6
+  pub refusal-6 : meaning (refusal.IndexPastEnd 2) ≡ 6 ∷ 2 ∷ []
   pub refusal-7 : meaning (refusal.BadTable 30) ≡ 7 ∷ 30 ∷ []
   pub refusal-8 : numberOf refusal.NoSuchPlace ≡ 8
   pub refusal-9 : numberOf refusal.ForeignRow ≡ 9
@@ -50,6 +50,7 @@ pub record Example : Type 0 where
   pub refusal-12 : meaning refusal.BadCell ≡ 12 ∷ []
   pub refusal-12-at : meaning (refusal.BadCellAt 4095) ≡ 12 ∷ 4095 ∷ []
   pub refusal-13 : numberOf refusal.NoSuchCoordinate ≡ 13
+  pub distance-named : firstNamed (refusal.IndexPastEnd 18446744073709551597) ≡ 18446744073709551597
   pub row-named : firstNamed (refusal.BadTable 30) ≡ 30
   pub coordinate-named : firstNamed (refusal.UnusableCoefficient 15) ≡ 15
   pub place-named : firstNamed (refusal.BadCellAt 4095) ≡ 4095

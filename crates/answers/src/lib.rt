@@ -14,8 +14,8 @@ pub enum Refusal {
     BufferLength,
     // 5: magnitudes don't sum to k
     MagnitudeSum,
-    // 6: index N or more
-    IndexPastEnd,
+    // 6: index N or more, with its distance
+    IndexPastEnd { distance: u64 },
     // 7: bad pairing table, with the first bad row
     BadTable { row: usize },
     // 8: place not in the table
@@ -34,8 +34,8 @@ pub enum Refusal {
     NoSuchCoordinate,
 }
 
-// A refusal in numbers: its own; those of the row, coordinate or place that it names, at most two, with 0 where it
-// names none; and how many it names.
+// A refusal in numbers: its own; those of the distance, row, coordinate or place that it names, at most two, with 0
+// where it names none; and how many it names.
 pub struct Numbers(pub u32, pub usize, pub usize, pub usize);
 
 // What a check answers that has nothing to tell but whether it passed.
@@ -53,7 +53,7 @@ pub fn in_numbers(refusal: Refusal) -> Numbers
         Refusal::ShellTooLarge => Numbers(3, 0, 0, 0),
         Refusal::BufferLength => Numbers(4, 0, 0, 0),
         Refusal::MagnitudeSum => Numbers(5, 0, 0, 0),
-        Refusal::IndexPastEnd => Numbers(6, 0, 0, 0),
+        Refusal::IndexPastEnd { distance } => Numbers(6, distance as usize, 0, 1),
         Refusal::BadTable { row } => Numbers(7, row, 0, 1),
         Refusal::NoSuchPlace => Numbers(8, 0, 0, 0),
         Refusal::ForeignRow => Numbers(9, 0, 0, 0),

@@ -133,11 +133,16 @@ fn read_into(table: &[u8], page: &[u8], place: usize, out: &mut [i32]) {
 fn shown(answer: Answer) {
     match answer {
         Answer::Sound => output::answer(0),
-        Answer::Mended => output::answer(1),
+        Answer::Mended { distance } => mended(distance),
         Answer::Missing => output::answer(2),
         Answer::Contested => output::answer(3),
         Answer::Unreadable(reason) => unreadable(reason),
     }
+}
+
+fn mended(distance: u64) {
+    output::answer(1);
+    output::next(distance);
 }
 
 fn unreadable(reason: u32) {
@@ -155,8 +160,14 @@ fn value(table: &[u8], page: &[u8], place: usize, coordinate: usize) {
 
 fn carried(value: Value) {
     match value {
-        Value::Sound(v) => scaled(0, v),
-        Value::Mended(v) => scaled(1, v),
+        Value::Sound(v) => {
+            output::answer(0);
+            scaled(v);
+        }
+        Value::Mended { value, distance } => {
+            mended(distance);
+            scaled(value);
+        }
         Value::Missing => output::answer(2),
         Value::Contested => output::answer(3),
         Value::Unreadable(reason) => unreadable(reason),
@@ -164,8 +175,7 @@ fn carried(value: Value) {
 }
 
 // A value as a whole number over 256; a zero that is not positive has its sign too.
-fn scaled(answer: u8, v: f32) {
-    output::answer(answer);
+fn scaled(v: f32) {
     if is_unusable(v) {
         output::none();
     } else {

@@ -1,15 +1,14 @@
 -- What the answer of a held record goes by, as the code tests it.
-use Prim.Native.Nat.{ℕ, _-_, _^_, _≤_, _<_}
+use Prim.Native.Nat.{ℕ, _^_, _≤_, _<_}
 use mathlib.Core.List.{List}
 use mathlib.Core.Path.{_≡_, refl, _∙_}
-use native.Mathlib.Nat.{le-of-lt, lt-of-lt-of-le}
+use native.Mathlib.Nat.{lt-of-lt-of-le}
 use borrow.Author.Tests.{le-leb, lt-leb, lt-ltb, le-ltb}
-use Rattle.counts.proofs.Widths.{width-is, width-enough, width-tight}
+use Rattle.counts.proofs.Widths.{width-is, width-enough}
 use Rattle.counts.specs.Width.{width}
 use Rattle.records.specs.Record.{radiusNumberIn, codewordIn}
 use Rattle.tables.specs.Row.{radiiOf, radiusAt}
-use Rattle.rules.proofs.Shows.{above-one, some-bits}
-use Rattle.rules.specs.Judging.{judgeCodeword, judgeIn, judgeRecord}
+use Rattle.rules.specs.Judging.{mendedAs, judgeCodeword, judgeIn, judgeRecord}
 use Rattle.rules.specs.declared.Judged.{Judged}
 use Rattle.rules.specs.declared.Judged.the-variants as judged
 use Rattle.numbering.specs.declared.inner.Found.{Found}
@@ -29,16 +28,9 @@ module _ (total k n : ℕ) where
   unfolding judgeCodeword
   codeword-past h = rw (le-leb (2 ^ width total) n h) refl
 
-  module _ (some : 0 < total) (inside : n < 2 ^ width total) (above : total ≤ n) where
-    pub width-from : 1 ≤ width total
-    width-from = some-bits total (above-one total n some inside above)
-
-    pub half-to : 2 ^ (width total - 1) ≤ n
-    half-to = le-of-lt (lt-of-lt-of-le (width-tight total (above-one total n some inside above)) above)
-
-    pub codeword-mended : judged.Mended k (n - 2 ^ (width total - 1)) ≡ judgeCodeword total k n
-    unfolding judgeCodeword
-    codeword-mended = rw (lt-leb (2 ^ width total) n inside, le-ltb n total above) refl
+  pub codeword-mended : n < 2 ^ width total → total ≤ n → mendedAs total k n ≡ judgeCodeword total k n
+  unfolding judgeCodeword
+  codeword-mended inside above = rw (lt-leb (2 ^ width total) n inside, le-ltb n total above) refl
 
 module _ (row y : List ℕ) where
   pub record-10 : radiiOf row ≤ radiusNumberIn y → judged.Unreadable 10 ≡ judgeRecord row y
@@ -52,7 +44,7 @@ module _ (row y : List ℕ) where
 -- of an answer that is not sound nothing was found
 none-handed : (row : List ℕ) (j : Judged) (found : Found) → NotSound j → Nowhere found → Handed row j found
 none-handed row (judged.Sound k n) found none nowhere = absurd none
-none-handed row (judged.Mended k n) found none nowhere = nowhere
+none-handed row (judged.Mended k n d) found none nowhere = nowhere
 none-handed row judged.Missing found none nowhere = nowhere
 none-handed row judged.Contested found none nowhere = nowhere
 none-handed row (judged.Unreadable reason) found none nowhere = nowhere

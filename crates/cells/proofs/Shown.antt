@@ -10,4 +10,4 @@ use Rattle.cells.specs.Seen.{Sees}
 use Rattle.cells.specs.declared.inner.judging.Seen.{Seen}
 
 pub seen-shows : (row : List ℕ) (c : Cell) {seen : Seen} → IsRow row → Sees row c seen → Shows row (seen .judged)
-seen-shows row c is-row sees = rw (sees .is-judged) (judge-shows row (row-lawful row) (row-full row) (is-row .row-good) c)
+seen-shows row c is-row sees = rw (sees .is-judged) (judge-shows row (row-lawful row) (is-row .row-good) c (row-full row))

@@ -17,7 +17,7 @@ Nowhere found = (found .s ≡ 0) × (found .start ≡ 0)
 -- what was found serves to show the answer: of a sound place, where its index stands; of the others nothing was found
 abbrev pub Handed : List ℕ → Judged → Found → Type 0
 Handed row (judged.Sound k n) found = FoundIn row k n found
-Handed row (judged.Mended k n) found = Nowhere found
+Handed row (judged.Mended k n d) found = Nowhere found
 Handed row judged.Missing found = Nowhere found
 Handed row judged.Contested found = Nowhere found
 Handed row (judged.Unreadable reason) found = Nowhere found
@@ -25,7 +25,7 @@ Handed row (judged.Unreadable reason) found = Nowhere found
 -- an answer that asks for nothing found
 abbrev pub NotSound : Judged → Type 0
 NotSound (judged.Sound k n) = ⊥
-NotSound (judged.Mended k n) = Unit {0}
+NotSound (judged.Mended k n d) = Unit {0}
 NotSound judged.Missing = Unit {0}
 NotSound judged.Contested = Unit {0}
 NotSound (judged.Unreadable reason) = Unit {0}

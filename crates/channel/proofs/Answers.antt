@@ -23,7 +23,7 @@ use Rattle.channel.proofs.Values.{exact-shown}
 pub answers : (t : List ℕ) → Good t → (pg : List ℕ) (p : ℕ) → p < placesIn t → Answers t pg p
 answers t good pg p h =
     let row = rowFor t p in
-    let shows = judge-shows row (row-lawful row) (row-full row) (good-place t p good h .1) (cellAt pg p) in
+    let shows = judge-shows row (row-lawful row) (good-place t p good h .1) (cellAt pg p) (row-full row) in
     record { shows = shows; exact = exact-shown t p (judgeAt t pg p) shows }
 
 each-count : (f : ℕ → ℕ) (n j : ℕ) → j < 5 → getD (countsOf f n) j 0 ≡ countOf f j n

@@ -2,7 +2,7 @@
 use Prim.Native.Nat.{ℕ, _+_}
 use mathlib.Core.Path.{_≡_, refl, sym, _∙_}
 use mathlib.Core.List.{List, [], _∷_}
-use lib.ListN.{length}
+use lib.ListN.{length, drop}
 use Rattle.counts.specs.Counts.{N}
 use Rattle.tables.specs.Usable.{shellChecks}
 use Rattle.shell.specs.Shell.{countMeaning, countSays}
@@ -20,15 +20,15 @@ use Rattle.runs.specs.Sending.{recordsOf, sendChecks, sendSays}
 use Rattle.sending.specs.Meanings.{sendMeaning}
 use Rattle.sending.proofs.OneToOne.{send-one-to-one}
 use Rattle.rules.specs.Taking.{takeChecks, takeInto, takeSays}
-use Rattle.rules.specs.Judging.{judgeAt, answerNumber, reasonOf}
-use Rattle.rules.specs.Reading.{pointAt, carriedBy, readChecks, readSays, coefficientChecks}
+use Rattle.rules.specs.Judging.{judgeAt}
+use Rattle.rules.specs.Reading.{told, pointAt, carriedBy, readChecks, readSays, coefficientChecks}
 use Rattle.rules.specs.Tallying.{tallyChecks, tallyOf, tallySays}
 use Rattle.page.specs.Meanings.{takeMeaning, readMeaning, tallyMeaning}
 use Rattle.page.proofs.OneToOne.{take-one-to-one, read-one-to-one, coefficient-one-to-one, tally-one-to-one}
 use Rattle.report.specs.Calls.{startingWith, noRoom, linesFit, linesChecks, linesText, linesSays, lineSays, listedMeaning, linedMeaning}
 use Rattle.report.proofs.OneToOne.{listed-one-to-one, lined-one-to-one}
-use Rattle.channel.specs.Demand1.{withTable, quantizeConditions, sendConditions, takeConditions, readConditions, coefficientConditions, tallyConditions, linesConditions, Determined, Demand1}
-use Rattle.channel.proofs.Conditions.{alike, check-alike, quantize-alike, send-alike, take-alike, read-alike, coefficient-alike, tally-alike, lines-alike}
+use Rattle.channel.specs.Demand1.{withTable, pointConditions, quantizeConditions, sendConditions, takeConditions, readConditions, coefficientConditions, tallyConditions, linesConditions, Determined, Demand1}
+use Rattle.channel.proofs.Conditions.{alike, point-alike, check-alike, quantize-alike, send-alike, take-alike, read-alike, coefficient-alike, tally-alike, lines-alike}
 use Rattle.channel.proofs.Refusing.{refusing, unchanged}
 
 determined : {A : Type 0} (meaningOf : A → List ℕ) (says : List ℕ) → ((r r′ : A) → meaningOf r ≡ meaningOf r′ → r ≡ r′) → Determined meaningOf says
@@ -36,7 +36,7 @@ determined meaningOf says same r r′ a b = same r r′ (a ∙ sym b)
 
 -- what is told of a place, after 0
 answers : List ℕ → List ℕ → ℕ → List ℕ
-answers t pg p = answerNumber (judgeAt t pg p) ∷ reasonOf (judgeAt t pg p) ∷ []
+answers t pg p = drop 1 (told (judgeAt t pg p))
 
 -- what is told of a block of lines, after 0
 written : List ℕ → List ℕ → ℕ → ℕ → List ℕ
@@ -50,7 +50,7 @@ demand-1 = record {
   index = λ l k x. refusing (productIndex x ∷ []) (indexChecks l k x) (indexChecks l k x) refl refl (alike (indexChecks l k x));
   index-determined = λ l k x. determined indexMeaning (indexSays l k x) index-one-to-one;
   point = λ l k n out.
-      refusing [] (pointChecks l k n (length out)) (pointChecks l k n (length out)) refl refl (alike (pointChecks l k n (length out)));
+      refusing [] (pointChecks l k n (length out)) (pointConditions l k n (length out)) refl refl (point-alike l k n (length out));
   point-unchanged = λ l k n out. unchanged [] (pointChecks l k n (length out)) (productPoint l k n) out;
   point-determined = λ l k n out. determined pointMeaning (pointSays l k n out) point-one-to-one;
   check = λ t. refusing (placesIn t ∷ []) (tableChecks t) (withTable t []) refl refl (check-alike t);

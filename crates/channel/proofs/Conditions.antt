@@ -8,6 +8,8 @@ use lib.Ieee.{Float}
 use lib.ListN.{length}
 use Rattle.answers.specs.Checks.{numberSaid, Check, lengthCheck, pick, firstOf, eachFrom}
 use Rattle.answers.proofs.OneNumber.{OfNumber, each-of, one-number, one-number-last}
+use Rattle.counts.specs.Counts.{N}
+use Rattle.points.specs.Calls.{pastEndCheck, pointChecks}
 use Rattle.tables.specs.Table.{placesIn, tableChecks, placeCheck, placeChecks, rowOf, rowFor, lengthFor}
 use Rattle.tables.proofs.Seven.{table-of-7}
 use Rattle.records.specs.Record.{recordCheck, placeIn}
@@ -21,7 +23,7 @@ use Rattle.rules.specs.Taking.{pageCheck, foreignCheck, cellCheck, ownCellCheck
 use Rattle.rules.specs.Reading.{readRest, readChecks, coefficientRest, coefficientChecks}
 use Rattle.rules.specs.Tallying.{tallyRest, tallyChecks}
 use Rattle.report.specs.Calls.{noRoom, linesFit, linesRest, linesChecks}
-use Rattle.channel.specs.Demand1.{condition, withTable, quantizeConditions, sendConditions, takeConditions, readConditions, coefficientConditions, tallyConditions, linesConditions}
+use Rattle.channel.specs.Demand1.{condition, withTable, pointConditions, quantizeConditions, sendConditions, takeConditions, readConditions, coefficientConditions, tallyConditions, linesConditions}
 
 -- the same number is said by both, whatever the answer
 pub record Alike (cs ds : List Check) : Type 0 where
@@ -52,6 +54,9 @@ by-table : {checks rest conditions : List Check} (t : List ℕ) → checks ≡ t
 by-table t is same = rw is (grouped 7 (tableChecks t) (table-of-7 t) same)
 
 -- ---- the calls
+pub point-alike : (l k n b : ℕ) → Alike (pointChecks l k n b) (pointConditions l k n b)
+point-alike l k n b = behind _ (behind _ (behind _ (behind _ (grouped-last 6 (pastEndCheck n (N l k) ∷ []) (refl, tt)))))
+
 module _ (t : List ℕ) where
   pub check-alike : Alike (tableChecks t) (withTable t [])
   check-alike = grouped-last 7 (tableChecks t) (table-of-7 t)

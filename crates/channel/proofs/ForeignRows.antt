@@ -2,16 +2,15 @@
 -- given no reason but 10 and 14, and the readers, the tally and the lines tell what that answer is.
 use Prim.Native.Nat.{ℕ}
 use mathlib.Core.Bool.{true}
-use mathlib.Core.List.{List, [], _∷_, _++_, map}
+use mathlib.Core.List.{List, _∷_, _++_, map}
 use mathlib.Core.Logic.{_⊎_, inl, inr}
 use mathlib.Core.Path.{_≡_, sym, ap, _∙_}
 use native.Mathlib.Omega.{arith}
-use lib.Dec.{lit<}
 use lib.IntN.{ℤ, pos}
 use lib.ListN.{length, getD, drop, replicate}
 use lib.Seq.{drop-append-seam}
 use Rattle.answers.specs.Checks.{Check, anyOf, failsOf, firstOf, Passes}
-use Rattle.answers.proofs.InOrder.{Numbered, numbered-then, says-passes, passes-says}
+use Rattle.answers.proofs.InOrder.{Numbered}
 use Rattle.tables.specs.Row.{lengthOf}
 use Rattle.tables.specs.Table.{rowOf, rowFor}
 use Rattle.records.specs.Record.{placeIn, rowIn}
@@ -23,11 +22,12 @@ use Rattle.rules.specs.declared.Judged.{Judged}
 use Rattle.rules.specs.declared.Judged.the-variants as judged
 use Rattle.rules.proofs.Arrivals.{shut-leaves}
 use Rattle.rules.proofs.Claims.{claim-is, none-leaves}
-use Rattle.rules.proofs.Pages.{look-numbered, ready-or-shut}
+use Rattle.rules.proofs.Pages.{ready-or-shut}
 use Rattle.rules.proofs.Reasons.{judge-reasoned, no-nine}
 use Rattle.text.specs.Text.{ascii, digitsOf, decimal, integer, spaced, word, placeText}
 use Rattle.report.specs.Listing.{lineOf}
 use Rattle.channel.specs.ForeignRows.{TellsNine, ForeignRows}
+use Rattle.channel.proofs.Reading.{reader-told, read-numbered, coefficient-numbered}
 
 -- ---- taking
 unmoved : (t pg x : List ℕ) → (rowIn x ≡ rowOf t (placeIn x) → ⊥) → takeLeaves t pg x ≡ pg
@@ -42,19 +42,15 @@ module _ (t pg : List ℕ) (p : ℕ) where
   reasoned : Reasoned (judgeAt t pg p)
   reasoned = judge-reasoned (rowFor t p) (cellAt pg p)
 
-  -- either reader looks at the place first; where it answers, the reason is that of the place
+  -- the reason that either reader gives is that of the place
   by-reader : (rest : List Check) → Numbered rest → TellsNine (firstOf (lookChecks t pg p ++ rest) (told (judgeAt t pg p))) → ⊥
   by-reader rest numbered (answer, more, says) =
-      let j = judgeAt t pg p in
-      let checks = lookChecks t pg p ++ rest in
-      let passes = says-passes (answerNumber j ∷ reasonOf j ∷ []) (answer ∷ 9 ∷ more) checks (numbered-then (lookChecks t pg p) rest (look-numbered t pg p) numbered) says in
-      let same : told j ≡ 0 ∷ answer ∷ 9 ∷ more = sym (passes-says (told j) checks passes) ∙ says in
-      no-nine j reasoned (ap (λ (ns : List ℕ). getD ns 2 0) same)
+      no-nine (judgeAt t pg p) reasoned (ap (λ (ns : List ℕ). getD ns 2 0) (reader-told t pg p rest numbered (answer ∷ 9 ∷ more) says .1))
 
 -- ---- the tally
 counted : (j : Judged) → Reasoned j → answerNumber j ≡ 4 → (reasonOf j ≡ 10) ⊎ (reasonOf j ≡ 14)
 counted (judged.Sound k n) r e = absurd (omega arith)
-counted (judged.Mended k n) r e = absurd (omega arith)
+counted (judged.Mended k n d) r e = absurd (omega arith)
 counted judged.Missing r e = absurd (omega arith)
 counted judged.Contested r e = absurd (omega arith)
 counted (judged.Unreadable reason) r e = r
@@ -77,7 +73,7 @@ same-after p answer reason z q same i =
 other-line : (p : ℕ) (row : List ℕ) (j : Judged) → Reasoned j → (q : List ℤ) → lineOf row p j ≡ placeText p 4 9 q → ⊥
 unfolding decimal digitsOf
 other-line p row (judged.Sound k n) r q same = let letter : _≡_ {A = ℕ} 115 117 = same-after p 0 0 (pointNamed row k n) q same 1 in omega arith
-other-line p row (judged.Mended k n) r q same = let letter : _≡_ {A = ℕ} 109 117 = same-after p 1 0 (pointNamed row k n) q same 1 in omega arith
+other-line p row (judged.Mended k n d) r q same = let letter : _≡_ {A = ℕ} 109 117 = same-after p 1 d (pointNamed row k n) q same 1 in omega arith
 other-line p row judged.Missing r q same = let letter : _≡_ {A = ℕ} 109 117 = same-after p 2 0 (zeros row) q same 1 in omega arith
 other-line p row judged.Contested r q same = let letter : _≡_ {A = ℕ} 99 117 = same-after p 3 0 (zeros row) q same 1 in omega arith
 other-line p row (judged.Unreadable reason) (inl ten) q same =
@@ -91,8 +87,8 @@ pub foreign-rows : ForeignRows
 foreign-rows = record {
   own-row = λ t x p claiming. claim-is t x p claiming .of-row;
   changes-nothing = unmoved;
-  read = λ t pg p out. by-reader t pg p (readRest (rowFor t p) (rowOf t p) pg p (length out)) (lit< tt, (lit< tt, tt));
-  coefficient = λ t pg p i. by-reader t pg p (coefficientRest (rowFor t p) (rowOf t p) pg p i) (lit< tt, (lit< tt, tt));
+  read = λ t pg p out. by-reader t pg p (readRest (rowFor t p) (rowOf t p) pg p (length out)) (read-numbered t pg p (length out));
+  coefficient = λ t pg p i. by-reader t pg p (coefficientRest (rowFor t p) (rowOf t p) pg p i) (coefficient-numbered t pg p i);
   tally = λ t pg p. counted (judgeAt t pg p) (reasoned t pg p);
   line = λ t pg p. other-line p (rowFor t p) (judgeAt t pg p) (reasoned t pg p);
 }

@@ -6,6 +6,7 @@ pub mod Reading
 pub mod ThreeCases
 pub mod Never12
 pub mod ForeignRows
+pub mod PastEnd
 pub mod Values
 pub mod Accepted
 pub mod Arrived

@@ -16,7 +16,10 @@ use Rattle.quantizer.proofs.Written.{record-written}
 use Rattle.runs.proofs.Records.{record-eight}
 use Rattle.runs.specs.Run.{vectorFor}
 use Rattle.runs.specs.Sending.{recordAt, sendLeaves}
-use Rattle.rules.specs.Judging.{judgeAt, answerNumber, reasonOf, shown}
+use Rattle.rules.specs.Judging.{judgeAt, answerNumber, reasonOrDistance, shown}
+use Rattle.rules.specs.Reading.{told}
+use Rattle.rules.specs.declared.Judged.{Judged}
+use Rattle.rules.specs.declared.Judged.the-variants as judged
 use Rattle.rules.specs.Taking.{empty, after, grown, partsOf, AllEqual}
 use Rattle.rules.specs.Tallying.{answerAt, tallyOf}
 use Rattle.rules.proofs.Claims.{Claims, claim-is}
@@ -31,10 +34,18 @@ use Rattle.channel.proofs.Sent.{shown-as-sent}
 use Rattle.channel.proofs.SendingAccepted.{AcceptedRun, accepts-run, place-sent, send-writes}
 use Rattle.channel.proofs.SendingParts.{is-part, part-is}
 
+-- a sound place has neither a reason nor a distance
+sound-field : (j : Judged) → answerNumber j ≡ 0 → reasonOrDistance j ≡ 0
+sound-field (judged.Sound k n) e = refl
+sound-field (judged.Mended k n d) e = absurd (omega arith)
+sound-field judged.Missing e = refl
+sound-field judged.Contested e = refl
+sound-field (judged.Unreadable reason) e = absurd (omega arith)
+
 -- a place that is sound with a point is told as sound, and that point is shown
 record ToldSound (t pg : List ℕ) (p : ℕ) (q : List ℤ) : Type 0 where
   pub sound : answerNumber (judgeAt t pg p) ≡ 0
-  pub no-reason : reasonOf (judgeAt t pg p) ≡ 0
+  pub no-field : reasonOrDistance (judgeAt t pg p) ≡ 0
   pub point : shown (rowFor t p) (judgeAt t pg p) ≡ q
 
 sound-told : (t : List ℕ) → Good t → (xs : List (List ℕ)) (p : ℕ) → p < placesIn t → (q : List ℤ) → SoundWith t (grown t xs) p q → ToldSound t (grown t xs) p q
@@ -43,10 +54,11 @@ sound-told t good xs p h q sound =
     let out = replicate (lengthFor t p) (pos 0) in
     let long : length out ≡ lengthFor t p = length-replicate (lengthFor t p) (pos 0) in
     let reads = grown-reads t good xs p h j (shown (rowFor t p) j) refl refl in
-    let says : 0 ∷ answerNumber j ∷ reasonOf j ∷ [] ≡ 0 ∷ 0 ∷ 0 ∷ [] = sym (reads .read-says out long) ∙ sound .reads .read-says out long in
+    let says : told j ≡ 0 ∷ 0 ∷ 0 ∷ [] = sym (reads .read-says out long) ∙ sound .reads .read-says out long in
+    let is : answerNumber j ≡ 0 = ap (λ (ns : List ℕ). getD ns 1 0) says in
     record {
-      sound = ap (λ (told : List ℕ). getD told 1 0) says;
-      no-reason = ap (λ (told : List ℕ). getD told 2 0) says;
+      sound = is;
+      no-field = sound-field j is;
       point = sym (reads .read-leaves out long) ∙ sound .reads .read-leaves out long;
     }
 
@@ -97,7 +109,7 @@ module _ (t : List ℕ) (run : List Float) (held : List ℕ) (a : AcceptedRun t 
       place-told = sound-told t (a .good) xs p h (sentPoint t run p) place-sound
 
       line-sound : lineAt t (grown t xs) p ≡ soundLine t run p
-      line-sound = rw (place-told .sound, place-told .no-reason, place-told .point) refl
+      line-sound = rw (place-told .sound, place-told .no-field, place-told .point) refl
 
     lines-sound : linesFrom t (grown t xs) 0 (placesIn t) ≡ joined (soundLine t run) 0 (placesIn t)
     lines-sound = joined-equal (lineAt t (grown t xs)) (soundLine t run) 0 (placesIn t) (λ p from to. line-sound p (omega arith))

@@ -1,21 +1,21 @@
 -- Demand 3 e: what a place shows is what came for it, once or several times, and nothing else did.
 use Prim.Native.Nat.{ℕ, _<_}
-use mathlib.Core.Path.{refl, ap}
+use mathlib.Core.Path.{_≡_, refl, ap}
 use mathlib.Core.List.{List, [], _∷_, _++_}
-use mathlib.Core.Logic.{inl, inr, ⊎-elim}
+use mathlib.Core.Logic.{inl, inr}
 use native.Mathlib.Omega.{arith}
 use lib.Dec.{lit<}
 use lib.ListN.{length, getD}
-use Rattle.answers.specs.Checks.{Check, firstOf, Passes}
-use Rattle.answers.proofs.InOrder.{Numbered, numbered-then, says-passes, passes-apart, passes-says}
+use Rattle.answers.specs.Checks.{Check, firstOf}
+use Rattle.answers.proofs.InOrder.{Numbered, passes-apart}
 use Rattle.tables.specs.Table.{placesIn, Good, rowOf, rowFor}
 use Rattle.layout.specs.Layout.{Cell}
 use Rattle.rules.specs.Taking.{heldCell, lookChecks, grown}
-use Rattle.rules.specs.Judging.{judge, judgeAt, answerNumber, reasonOf, shown}
+use Rattle.rules.specs.Judging.{judge, judgeAt, answerNumber, shown}
 use Rattle.rules.specs.Reading.{told, readRest, coefficientRest}
-use Rattle.rules.proofs.Pages.{look-numbered, look-place}
+use Rattle.rules.proofs.Pages.{look-place}
 use Rattle.channel.specs.Demand3.{WhatCame, ShowsPoint, OnlySent, ReadOnlySent, ValuedOnlySent}
-use Rattle.channel.proofs.Reading.{grown-reads}
+use Rattle.channel.proofs.Reading.{reader-told, read-numbered, coefficient-numbered, grown-reads}
 use Rattle.channel.proofs.ThreeCases.{which-came, nobody-cell, equal-cell, differ-cell}
 
 module _ (t : List ℕ) (xs : List (List ℕ)) (p : ℕ) where
@@ -34,25 +34,22 @@ module _ (t : List ℕ) (xs : List (List ℕ)) (p : ℕ) where
   only-equal good h shows (inr (inr two)) =
       absurd (omega (arith, ap (λ (c : Cell). answerNumber (judge (rowFor t p) c)) (differ-cell t good xs p h two)))
 
-  -- either reader looks at the place first; where it shows a point all its checks pass, and sound and mended are
-  -- the first two answers
+  -- where either reader shows a point, sound and mended being the first two answers
+  answered : (rest : List Check) → Numbered rest → (values : List ℕ) → getD values 0 0 < 2
+      → firstOf (lookChecks t (grown t xs) p ++ rest) (told (judgeAt t (grown t xs) p)) ≡ 0 ∷ values → OnlySent t xs p
+  answered rest numbered values first-two says =
+      let pg = grown t xs in
+      let did = reader-told t pg p rest numbered values says in
+      let place = look-place t pg p (passes-apart (lookChecks t pg p) rest (did .0) .0) in
+      only-equal (place .0) (place .1) (omega (arith, ap (λ (says : List ℕ). getD says 1 0) (did .1))) (which-came t p xs)
+
   by-reader : (rest : List Check) → Numbered rest → ShowsPoint (firstOf (lookChecks t (grown t xs) p ++ rest) (told (judgeAt t (grown t xs) p)))
       → OnlySent t xs p
-  by-reader rest numbered shows =
-      let pg = grown t xs in
-      let j = judgeAt t pg p in
-      let checks = lookChecks t pg p ++ rest in
-      let all-numbered = numbered-then (lookChecks t pg p) rest (look-numbered t pg p) numbered in
-      let passes : Passes checks =
-      ⊎-elim (says-passes (answerNumber j ∷ reasonOf j ∷ []) (0 ∷ 0 ∷ []) checks all-numbered) (says-passes (answerNumber j ∷ reasonOf j ∷ []) (1 ∷ 0 ∷ []) checks all-numbered) shows in
-      let said : ShowsPoint (told j) = rw (passes-says (told j) checks passes) at shows in
-      let first-two : answerNumber j < 2 =
-      ⊎-elim (λ sound. omega (arith, ap (λ (says : List ℕ). getD says 1 0) sound)) (λ mended. omega (arith, ap (λ (says : List ℕ). getD says 1 0) mended)) said in
-      let place = look-place t pg p (passes-apart (lookChecks t pg p) rest passes .0) in
-      only-equal (place .0) (place .1) first-two (which-came t p xs)
+  by-reader rest numbered (inl sound) = answered rest numbered (0 ∷ 0 ∷ []) (lit< tt) sound
+  by-reader rest numbered (inr (d, mended)) = answered rest numbered (1 ∷ 0 ∷ d ∷ []) (lit< tt) mended
 
 pub read-only-sent : ReadOnlySent
-read-only-sent t xs p out shows = by-reader t xs p (readRest (rowFor t p) (rowOf t p) (grown t xs) p (length out)) (lit< tt, (lit< tt, tt)) shows
+read-only-sent t xs p out = by-reader t xs p (readRest (rowFor t p) (rowOf t p) (grown t xs) p (length out)) (read-numbered t (grown t xs) p (length out))
 
 pub valued-only-sent : ValuedOnlySent
-valued-only-sent t xs p i shows = by-reader t xs p (coefficientRest (rowFor t p) (rowOf t p) (grown t xs) p i) (lit< tt, (lit< tt, tt)) shows
+valued-only-sent t xs p i = by-reader t xs p (coefficientRest (rowFor t p) (rowOf t p) (grown t xs) p i) (coefficient-numbered t (grown t xs) p i)

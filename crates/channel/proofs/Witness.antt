@@ -9,6 +9,7 @@ use lib.Dec.{lit<}
 use lib.ListN.{replicate}
 use native.Mathlib.Omega.{arith}
 use Rattle.counts.specs.Counts.{N, binomial, D, S, B, sumAfter, rangeSize, rangeStart}
+use Rattle.counts.specs.Distance.{distance}
 use Rattle.counts.specs.Width.{width, bitsFrom}
 use Rattle.enumeration.specs.Product.{patternIndex, shapeOffset, shapeIndex, signIndex, indexFrom, productIndex}
 use Rattle.enumeration.specs.Reading.{rangeFrom, rangeOf, patternOf, firstMagnitude, shapeLeft, shapeOf, signsOf, pointFrom, pointWithin, productPoint}
@@ -63,7 +64,7 @@ each-sent (suc zero) h = record { lent = replicate 8 9; accepted = refl; written
 each-sent (suc (suc p)) h = absurd (omega arith)
 
 pub witness : Witness
-unfolding onlyClaims claims toBits round lt N binomial D S B sumAfter rangeSize rangeStart width bitsFrom patternIndex shapeOffset shapeIndex signIndex indexFrom productIndex rangeFrom rangeOf patternOf firstMagnitude shapeLeft shapeOf signsOf pointFrom pointWithin productPoint over256 nearestWhole ofPattern unitsOf unusableCoefficient negative byteOf enumerationOf badRadius badRadii badRow rowAt placesBefore rowsBefore firstBest largest give shared recordOf chosenRadiusNumber stateAt recordAt setCell badCell takeCell arrive after judgeCodeword judgeRecord judge
+unfolding onlyClaims claims toBits round lt N binomial D S B sumAfter rangeSize rangeStart distance width bitsFrom patternIndex shapeOffset shapeIndex signIndex indexFrom productIndex rangeFrom rangeOf patternOf firstMagnitude shapeLeft shapeOf signsOf pointFrom pointWithin productPoint over256 nearestWhole ofPattern unitsOf unusableCoefficient negative byteOf enumerationOf badRadius badRadii badRow rowAt placesBefore rowsBefore firstBest largest give shared recordOf chosenRadiusNumber stateAt recordAt setCell badCell takeCell arrive after judgeCodeword judgeRecord judge
 witness = record {
   is-sent = record { lent = replicate 8 9; accepted = refl; written = refl; point = refl };
   is-read = record {
@@ -83,7 +84,7 @@ witness = record {
     leaves = refl;
   };
   shows-sound = inl refl;
-  shows-mended = inr refl;
+  shows-mended = inr (0, refl);
   any-byte = each-byte;
   page-sent = each-sent;
 }

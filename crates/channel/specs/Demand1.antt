@@ -4,7 +4,7 @@
 -- it leaves in the buffer that is lent to it. Collect refuses nothing; its contract is two equations.
 use Prim.Native.Nat.{ℕ, suc}
 use mathlib.Core.Path.{_≡_}
-use mathlib.Core.List.{List, [], _∷_, map, List·Memᴰ}
+use mathlib.Core.List.{List, [], _∷_, _++_, map, List·Memᴰ}
 use mathlib.Core.Logic.{_↔_}
 use lib.Ieee.{Float}
 use lib.IntN.{ℤ}
@@ -13,7 +13,7 @@ use Rattle.answers.specs.Checks.{Check, numberSaid, anyOf, failsOf, lengthCheck
 use Rattle.counts.specs.Counts.{N}
 use Rattle.tables.specs.Usable.{shellChecks}
 use Rattle.shell.specs.Shell.{countMeaning, countSays}
-use Rattle.points.specs.Calls.{indexChecks, indexMeaning, indexSays, pointChecks, pointMeaning, pointSays, pointLeaves}
+use Rattle.points.specs.Calls.{indexChecks, indexMeaning, indexSays, pastEndCheck, pointChecks, pointMeaning, pointSays, pointLeaves}
 use Rattle.tables.specs.Table.{placesIn, tableChecks, checkSays, placeCheck, rowOf, rowFor, lengthFor}
 use Rattle.pairing.specs.Meanings.{checkMeaning}
 use Rattle.records.specs.Record.{recordCheck, placeIn}
@@ -37,6 +37,10 @@ condition n cs = record { number = n; values = []; fails = anyOf (failsOf cs) }
 -- the numbers of conditions, in order
 abbrev pub numbersOf : List Check → List ℕ
 numbersOf cs = map (λ (c : Check). c .number) cs
+
+-- the conditions of point
+abbrev pub pointConditions : ℕ → ℕ → ℕ → ℕ → List Check
+pointConditions l k n b = shellChecks l k (N l k) ++ lengthCheck b l ∷ condition 6 (pastEndCheck n (N l k) ∷ []) ∷ []
 
 -- the conditions of a call whose checks begin with those of its table, 7, and what each call checks after them: 4
 -- is given for any buffer of a wrong length, 11 for any coefficient, and 12 for any cell
@@ -119,7 +123,7 @@ pub record Demand1 : Type 0 where
   pub index-determined : (l k : ℕ) (x : List ℤ) → Determined indexMeaning (indexSays l k x)
   -- Point: 1, 2, 3, 4, 6
   pub point : (l k n : ℕ) (out : List ℤ)
-      → Refusing (1 ∷ 2 ∷ 3 ∷ 4 ∷ 6 ∷ []) (pointChecks l k n (length out)) (pointChecks l k n (length out)) (pointSays l k n out)
+      → Refusing (1 ∷ 2 ∷ 3 ∷ 4 ∷ 6 ∷ []) (pointConditions l k n (length out)) (pointChecks l k n (length out)) (pointSays l k n out)
   pub point-unchanged : (l k n : ℕ) (out : List ℤ) → Unchanged (pointSays l k n out) (pointLeaves l k n out) out
   pub point-determined : (l k n : ℕ) (out : List ℤ) → Determined pointMeaning (pointSays l k n out)
   -- the check of a table: 7

@@ -48,12 +48,12 @@ abbrev pub WhatCame : List ℕ → List (List ℕ) → ℕ → Type 0
 WhatCame t xs p = Nobody t xs p ⊎ (((y : List ℕ) × OnlyCame t xs p y) ⊎ TwoDiffer t xs p)
 
 -- ---- what is read of a place
--- an answer by its number and reason, a point or zeros, and what each coefficient carries, with a buffer of the
--- right length and every coordinate
-pub record Reads (t pg : List ℕ) (p answer reason : ℕ) (q : List ℤ) (carries : ℕ → List Float) : Type 0 where
-  pub read-says : (out : List ℤ) → length out ≡ lengthFor t p → readSays t pg p out ≡ 0 ∷ answer ∷ reason ∷ []
+-- what both readers say of it, a point or zeros, and what each coefficient carries, with a buffer of the right length
+-- and every coordinate
+pub record Reads (t pg : List ℕ) (p : ℕ) (says : List ℕ) (q : List ℤ) (carries : ℕ → List Float) : Type 0 where
+  pub read-says : (out : List ℤ) → length out ≡ lengthFor t p → readSays t pg p out ≡ says
   pub read-leaves : (out : List ℤ) → length out ≡ lengthFor t p → readLeaves t pg p out ≡ q
-  pub coefficient-says : (i : ℕ) → i < lengthFor t p → coefficientSays t pg p i ≡ 0 ∷ answer ∷ reason ∷ []
+  pub coefficient-says : (i : ℕ) → i < lengthFor t p → coefficientSays t pg p i ≡ says
   pub coefficient-carries : (i : ℕ) → i < lengthFor t p → coefficientCarries t pg p i ≡ carries i
 
 -- coordinate x step, and its value: that over 256, as f32
@@ -66,16 +66,16 @@ Bytes t = (i : ℕ) → getD t i 0 < 256
 
 -- sound, with point q: each coefficient has its value, which is exact
 pub record SoundWith (t pg : List ℕ) (p : ℕ) (q : List ℤ) : Type 0 where
-  pub reads : Reads t pg p 0 0 q (λ i. over256 (scaled t p q i) ∷ [])
+  pub reads : Reads t pg p (0 ∷ 0 ∷ 0 ∷ []) q (λ i. over256 (scaled t p q i) ∷ [])
   pub exact : Bytes t → (i : ℕ) → IsOver256 (scaled t p q i) (over256 (scaled t p q i))
 
 -- no point: zeros, and no coefficient has a value
 abbrev pub Blank : List ℕ → List ℕ → ℕ → ℕ → Type 0
-Blank t pg p answer = Reads t pg p answer 0 (replicate (lengthFor t p) (pos 0)) (λ i. [])
+Blank t pg p answer = Reads t pg p (0 ∷ answer ∷ 0 ∷ []) (replicate (lengthFor t p) (pos 0)) (λ i. [])
 
--- a point is shown: sound or mended
+-- a point is shown: sound, or mended with any distance
 abbrev pub ShowsPoint : List ℕ → Type 0
-ShowsPoint says = (says ≡ 0 ∷ 0 ∷ 0 ∷ []) ⊎ (says ≡ 0 ∷ 1 ∷ 0 ∷ [])
+ShowsPoint says = (says ≡ 0 ∷ 0 ∷ 0 ∷ []) ⊎ ((d : ℕ) × (says ≡ 0 ∷ 1 ∷ 0 ∷ d ∷ []))
 
 -- ---- a. "The page does not depend on the order of arrival": on every table and every page, of any bytes and any
 -- length, with whatever was refused before, two lists of arrivals that are permutations of each other leave the

@@ -4,3 +4,4 @@ pub mod Demand2
 pub mod Sending
 pub mod Witness
 pub mod ForeignRows
+pub mod PastEnd

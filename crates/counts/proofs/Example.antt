@@ -2,10 +2,11 @@
 use mathlib.Core.Path.{refl}
 use Rattle.counts.specs.Counts.{N, binomial, D, S, B, sumAfter, rangeSize, rangeStart}
 use Rattle.counts.specs.Width.{width, bitsFrom}
+use Rattle.counts.specs.Distance.{distance}
 use Rattle.counts.specs.Example.{Example}
 
 pub example : Example
-unfolding N binomial D S B sumAfter rangeSize rangeStart width bitsFrom
+unfolding N binomial D S B sumAfter rangeSize rangeStart width bitsFrom distance
 example =
     record {
       none-0 = refl;
@@ -37,4 +38,6 @@ example =
       width-5 = refl;
       width-18 = refl;
       width-largest = refl;
+      distance-18 = refl;
+      distance-20 = refl;
     }

@@ -1,8 +1,9 @@
--- Small counts, written out: the triangle, the ranges of length 3 and radius 4, and widths. proofs/Example.antt
--- computes every line.
+-- Small counts, written out: the triangle, the ranges of length 3 and radius 4, widths, and distances.
+-- proofs/Example.antt computes every line.
 use mathlib.Core.Path.{_≡_}
 use Rattle.counts.specs.Counts.{N, binomial, D, S, B, R, O}
 use Rattle.counts.specs.Width.{width}
+use Rattle.counts.specs.Distance.{distance}
 
 pub record Example : Type 0 where
   -- N(l,0) = 1 for every l, N(0,k) = 0 for k above 0; a length is never taken for a radius
@@ -39,3 +40,6 @@ pub record Example : Type 0 where
   pub width-5 : width 5 ≡ 3
   pub width-18 : width 18 ≡ 5
   pub width-largest : width 4294967296 ≡ 32
+  -- the first index past the end of 18 points has the distance 0
+  pub distance-18 : distance 18 18 ≡ 0
+  pub distance-20 : distance 18 20 ≡ 2

@@ -1,3 +1,4 @@
 pub mod Counts
 pub mod Width
+pub mod Distance
 pub mod Example

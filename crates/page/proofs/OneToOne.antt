@@ -34,15 +34,15 @@ take-one-to-one = one-to-one takeMeaning arrivalOf arrival-back
 
 -- ---- read
 -- the answers by number, unreadable for the rest
-shownOf : ℕ → ℕ → Answer
-shownOf zero reason = answer.Sound
-shownOf (suc zero) reason = answer.Mended
-shownOf (suc (suc zero)) reason = answer.Missing
-shownOf (suc (suc (suc zero))) reason = answer.Contested
-shownOf (suc (suc (suc (suc n)))) reason = answer.Unreadable reason
+shownOf : ℕ → ℕ → ℕ → Answer
+shownOf zero reason distance = answer.Sound
+shownOf (suc zero) reason distance = answer.Mended distance
+shownOf (suc (suc zero)) reason distance = answer.Missing
+shownOf (suc (suc (suc zero))) reason distance = answer.Contested
+shownOf (suc (suc (suc (suc n)))) reason distance = answer.Unreadable reason
 
 answeredOf : List ℕ → Reading
-answeredOf vs = reading.Answered (shownOf (getD vs 0 0) (getD vs 1 0))
+answeredOf vs = reading.Answered (shownOf (getD vs 0 0) (getD vs 1 0) (getD vs 2 0))
 
 readingOf : List ℕ → Reading
 readingOf vs = answerOf answeredOf reading.Refused vs
@@ -50,7 +50,7 @@ readingOf vs = answerOf answeredOf reading.Refused vs
 reading-back : (a : Reading) → readingOf (readMeaning a) ≡ a
 unfolding readingOf answeredOf shownOf answerOf
 reading-back (reading.Answered answer.Sound) = refl
-reading-back (reading.Answered answer.Mended) = refl
+reading-back (reading.Answered (answer.Mended distance)) = refl
 reading-back (reading.Answered answer.Missing) = refl
 reading-back (reading.Answered answer.Contested) = refl
 reading-back (reading.Answered (answer.Unreadable reason)) = refl
@@ -60,15 +60,15 @@ pub read-one-to-one : (a b : Reading) → readMeaning a ≡ readMeaning b → a 
 read-one-to-one = one-to-one readMeaning readingOf reading-back
 
 -- ---- coefficient, with the values that it carries
-valueOf : ℕ → ℕ → Float → Value
-valueOf zero reason v = value.Sound v
-valueOf (suc zero) reason v = value.Mended v
-valueOf (suc (suc zero)) reason v = value.Missing
-valueOf (suc (suc (suc zero))) reason v = value.Contested
-valueOf (suc (suc (suc (suc n)))) reason v = value.Unreadable reason
+valueOf : ℕ → ℕ → ℕ → Float → Value
+valueOf zero reason distance v = value.Sound v
+valueOf (suc zero) reason distance v = value.Mended v distance
+valueOf (suc (suc zero)) reason distance v = value.Missing
+valueOf (suc (suc (suc zero))) reason distance v = value.Contested
+valueOf (suc (suc (suc (suc n)))) reason distance v = value.Unreadable reason
 
 carryingOf : List Float → List ℕ → Valued
-carryingOf values vs = valued.Answered (valueOf (getD vs 0 0) (getD vs 1 0) (getD values 0 nan))
+carryingOf values vs = valued.Answered (valueOf (getD vs 0 0) (getD vs 1 0) (getD vs 2 0) (getD values 0 nan))
 
 valuedOf : List ℕ → List Float → Valued
 valuedOf vs values = answerOf (carryingOf values) valued.Refused vs
@@ -76,7 +76,7 @@ valuedOf vs values = answerOf (carryingOf values) valued.Refused vs
 valued-back : (a : Valued) → valuedOf (coefficientMeaning a) (coefficientValues a) ≡ a
 unfolding valuedOf carryingOf valueOf answerOf
 valued-back (valued.Answered (value.Sound v)) = refl
-valued-back (valued.Answered (value.Mended v)) = refl
+valued-back (valued.Answered (value.Mended v distance)) = refl
 valued-back (valued.Answered value.Missing) = refl
 valued-back (valued.Answered value.Contested) = refl
 valued-back (valued.Answered (value.Unreadable reason)) = refl

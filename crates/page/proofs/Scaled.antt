@@ -55,7 +55,7 @@ module _ (row : List ℕ) (lawful : Lawful (enumerationOf row)) where
 
   shown-length : (j : Judged) → Shows row j → length (shown row j) ≡ lengthOf row
   shown-length (judged.Sound k n) shows = on-shell k n shows .of-length
-  shown-length (judged.Mended k n) shows = on-shell k n shows .of-length
+  shown-length (judged.Mended k n d) shows = on-shell k n shows .of-length
   shown-length judged.Missing shows = length-replicate (lengthOf row) (pos 0)
   shown-length judged.Contested shows = length-replicate (lengthOf row) (pos 0)
   shown-length (judged.Unreadable reason) shows = length-replicate (lengthOf row) (pos 0)
@@ -66,7 +66,7 @@ module _ (row : List ℕ) (lawful : Lawful (enumerationOf row)) where
 
   pub small : (j : Judged) → Shows row j → (i : ℕ) → natAbs (getD (shown row j) i (pos 0)) ≤ 32
   small (judged.Sound k n) shows i = named-small k n i shows
-  small (judged.Mended k n) shows i = named-small k n i shows
+  small (judged.Mended k n d) shows i = named-small k n i shows
   small judged.Missing shows i = zeros-small (lengthOf row) i
   small judged.Contested shows i = zeros-small (lengthOf row) i
   small (judged.Unreadable reason) shows i = zeros-small (lengthOf row) i

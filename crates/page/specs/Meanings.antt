@@ -23,10 +23,11 @@ abbrev pub takeMeaning : Arrival → List ℕ
 takeMeaning arrival.Taken = 0 ∷ []
 takeMeaning (arrival.Refused refusal) = meaning refusal
 
--- the answer of a place: its number in the tally's order, and the reason, 0 where there is none
+-- the answer of a place: its number in the tally's order, the reason, 0 where there is none, and the distance of a
+-- mended one
 abbrev pub answerMeaning : Answer → List ℕ
 answerMeaning answer.Sound = 0 ∷ 0 ∷ 0 ∷ []
-answerMeaning answer.Mended = 0 ∷ 1 ∷ 0 ∷ []
+answerMeaning (answer.Mended distance) = 0 ∷ 1 ∷ 0 ∷ distance ∷ []
 answerMeaning answer.Missing = 0 ∷ 2 ∷ 0 ∷ []
 answerMeaning answer.Contested = 0 ∷ 3 ∷ 0 ∷ []
 answerMeaning (answer.Unreadable reason) = 0 ∷ 4 ∷ reason ∷ []
@@ -38,14 +39,14 @@ readMeaning (reading.Refused refusal) = meaning refusal
 -- the answer of a coefficient in the same way, and the value that it carries
 abbrev pub valueMeaning : Value → List ℕ
 valueMeaning (value.Sound v) = 0 ∷ 0 ∷ 0 ∷ []
-valueMeaning (value.Mended v) = 0 ∷ 1 ∷ 0 ∷ []
+valueMeaning (value.Mended v distance) = 0 ∷ 1 ∷ 0 ∷ distance ∷ []
 valueMeaning value.Missing = 0 ∷ 2 ∷ 0 ∷ []
 valueMeaning value.Contested = 0 ∷ 3 ∷ 0 ∷ []
 valueMeaning (value.Unreadable reason) = 0 ∷ 4 ∷ reason ∷ []
 
 abbrev pub valuesIn : Value → List Float
 valuesIn (value.Sound v) = v ∷ []
-valuesIn (value.Mended v) = v ∷ []
+valuesIn (value.Mended v distance) = v ∷ []
 valuesIn value.Missing = []
 valuesIn value.Contested = []
 valuesIn (value.Unreadable reason) = []

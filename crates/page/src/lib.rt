@@ -26,10 +26,10 @@ pub enum Arrival {
     Refused(Refusal),
 }
 
-// What a place shows; an unreadable one has its reason: 10 or 14.
+// What a place shows; a mended one has its distance, and an unreadable one its reason: 10 or 14.
 pub enum Answer {
     Sound,
-    Mended,
+    Mended { distance: u64 },
     Missing,
     Contested,
     Unreadable(u32),
@@ -40,10 +40,11 @@ pub enum Reading {
     Refused(Refusal),
 }
 
-// What one coefficient shows: sound and mended have its value, unreadable its reason.
+// What one coefficient shows: sound and mended have its value, mended the distance of its place too, and unreadable
+// the reason.
 pub enum Value {
     Sound(f32),
-    Mended(f32),
+    Mended { value: f32, distance: u64 },
     Missing,
     Contested,
     Unreadable(u32),

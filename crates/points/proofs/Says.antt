@@ -9,6 +9,7 @@ use lib.ListN.{length}
 use borrow.Author.Tests.{eq-eqb, ne-eqb, le-leb, lt-leb}
 use Rattle.answers.specs.Checks.{firstOf, leaves}
 use Rattle.counts.specs.Counts.{N}
+use Rattle.counts.specs.Distance.{distance}
 use Rattle.enumeration.specs.Point.{OnShell, radiusOf}
 use Rattle.enumeration.specs.Product.{productIndex}
 use Rattle.enumeration.specs.Reading.{productPoint}
@@ -44,7 +45,7 @@ module _ (l k n : ℕ) (held : List ℤ) where
   pub point-4 : (length held ≡ l → ⊥) → PointDoes (4 ∷ []) held
   point-4 h = rw (ne-eqb (length held) l h) (refl, refl)
 
-  pub point-6 : length held ≡ l → N l k ≤ n → PointDoes (6 ∷ []) held
+  pub point-6 : length held ≡ l → N l k ≤ n → PointDoes (6 ∷ distance (N l k) n ∷ []) held
   point-6 e h = rw (eq-eqb (length held) l e, at-end (N l k) n h) (refl, refl)
 
   pub point-0 : length held ≡ l → n < N l k → PointDoes (0 ∷ []) (productPoint l k n)

@@ -9,6 +9,7 @@ use lib.ListN.{length}
 use Rattle.answers.specs.Refusals.{meaning}
 use Rattle.answers.specs.Checks.{Check, lengthCheck, firstOf, leaves}
 use Rattle.counts.specs.Counts.{N}
+use Rattle.counts.specs.Distance.{distance}
 use Rattle.tables.specs.Usable.{shellChecks}
 use Rattle.enumeration.specs.Point.{radiusOf}
 use Rattle.enumeration.specs.Product.{productIndex}
@@ -22,9 +23,12 @@ use Rattle.points.specs.declared.Pointed.the-variants as pointed
 abbrev pub wrongSum : List ℤ → ℕ → Bool
 wrongSum x k = not (eqb (radiusOf x) k)
 
--- 6: index N or more. It is said of any total.
+-- 6: index N or more, with its distance. It is said of any total.
 abbrev pub pastEnd : ℕ → ℕ → Bool
 pastEnd n total = leb total n
+
+abbrev pub pastEndCheck : ℕ → ℕ → Check
+pastEndCheck n total = record { number = 6; values = distance total n ∷ []; fails = pastEnd n total }
 
 -- Index: 1, 2, 3, 4, 5; first the last two
 abbrev pub indexRest : ℕ → ℕ → List ℤ → List Check
@@ -35,7 +39,7 @@ indexChecks l k x = shellChecks l k (N l k) ++ indexRest l k x
 
 -- Point: 1, 2, 3, 4, 6, in the same way; b is the length of the lent buffer
 abbrev pub pointRest : ℕ → ℕ → ℕ → ℕ → List Check
-pointRest l k n b = lengthCheck b l ∷ record { number = 6; values = []; fails = pastEnd n (N l k) } ∷ []
+pointRest l k n b = lengthCheck b l ∷ pastEndCheck n (N l k) ∷ []
 
 abbrev pub pointChecks : ℕ → ℕ → ℕ → ℕ → List Check
 pointChecks l k n b = shellChecks l k (N l k) ++ pointRest l k n b

@@ -82,6 +82,8 @@ fn point_usable(numbering: Numbering, n: u64, out: &mut [i32]) -> Pointed
             write_point(numbering, n, found, out);
             Pointed::Written
         }
-        Sought::Past { total: _ } => Pointed::Refused(Refusal::IndexPastEnd),
+        Sought::Past { total } => Pointed::Refused(Refusal::IndexPastEnd {
+            distance: n - total,
+        }),
     }
 }

@@ -20,6 +20,14 @@ told-rest answer reason (suc zero) a b = absurd (a refl)
 told-rest answer reason (suc (suc zero)) a b = absurd (b refl)
 told-rest answer reason (suc (suc (suc n))) a b = refl
 
+-- a mended place has its answer and its distance
+pub mended-rest : (d n : ℕ) → (n ≡ 1 → ⊥) → (n ≡ 3 → ⊥) → 0 ≡ getD (0 ∷ 1 ∷ 0 ∷ d ∷ []) n 0
+mended-rest d zero a b = refl
+mended-rest d (suc zero) a b = absurd (a refl)
+mended-rest d (suc (suc zero)) a b = refl
+mended-rest d (suc (suc (suc zero))) a b = absurd (b refl)
+mended-rest d (suc (suc (suc (suc n)))) a b = refl
+
 pub tally-rest : (s m i c u n : ℕ) → (n ≡ 1 → ⊥) → (n ≡ 2 → ⊥) → (n ≡ 3 → ⊥) → (n ≡ 4 → ⊥) → (n ≡ 5 → ⊥) → 0 ≡ getD (0 ∷ s ∷ m ∷ i ∷ c ∷ u ∷ []) n 0
 tally-rest s m i c u zero h1 h2 h3 h4 h5 = refl
 tally-rest s m i c u (suc zero) h1 h2 h3 h4 h5 = absurd (h1 refl)
@@ -29,9 +37,7 @@ tally-rest s m i c u (suc (suc (suc (suc zero)))) h1 h2 h3 h4 h5 = absurd (h4 re
 tally-rest s m i c u (suc (suc (suc (suc (suc zero))))) h1 h2 h3 h4 h5 = absurd (h5 refl)
 tally-rest s m i c u (suc (suc (suc (suc (suc (suc n)))))) h1 h2 h3 h4 h5 = refl
 
--- what is taken says 0 alone
-pub taken-items : (n : ℕ) → _≡_ {A = ℕ} (getD (0 ∷ 0 ∷ 0 ∷ []) n 0) (getD (0 ∷ []) n 0)
-taken-items zero = refl
-taken-items (suc zero) = refl
-taken-items (suc (suc zero)) = refl
-taken-items (suc (suc (suc n))) = refl
+-- what is done says 0 alone
+pub done-rest : (n : ℕ) → _≡_ {A = ℕ} 0 (getD (0 ∷ []) n 0)
+done-rest zero = refl
+done-rest (suc n) = refl

@@ -1,5 +1,5 @@
 // The calls of the other crates, exported to C for the second program alone. An answer and a refusal come back in
-// one number: the answer itself, or 2^40 plus the refusal's number.
+// one number: the answer itself, or 2^40 plus the refusal's number. Point answers as the calls in `pages` do.
 pub mod pages;
 
 use answers::Refusal;
@@ -18,12 +18,13 @@ use quantizer::quantize;
 use shell::Counted;
 use shell::count;
 ghost use mathlib.Core.Path.{_≡_};
+ghost use lib.ListN.{getD};
 ghost use Rattle.shell.specs.Shell.{countSays};
 ghost use Rattle.answers.specs.Checks.{numberSaid};
 ghost use Rattle.answers.specs.Refusals.{meaning};
 ghost use Rattle.tables.specs.Table.{checkSays};
 ghost use Rattle.pairing.specs.Meanings.{checkMeaning};
-ghost use Rattle.points.specs.Calls.{indexSays, pointSays, pointLeaves};
+ghost use Rattle.points.specs.Calls.{indexSays, pointMeaning, pointSays, pointLeaves};
 ghost use Rattle.quantizer.specs.Calls.{quantizeMeaning, quantizeSays, quantizeLeaves};
 ghost use Rattle.probe.specs.Coded.{coded, valued};
 
@@ -56,16 +57,29 @@ pub extern "C" fn probe_index(length: usize, radius: usize, x: &[i32]) -> u64
     }
 }
 
-// The call point, which answers with no value: 0, or the refusal's number.
+// An item of what point answers, as in `pages`.
+fn point_item(answer: Pointed, which: usize) -> u64
+    ensures { λ r. ⌜ r ≡ getD (pointMeaning answer) which 0 ⌝ }
+{
+    match answer {
+        Pointed::Written => 0,
+        Pointed::Refused(refusal) => pages::refused(refusal, which),
+    }
+}
+
+// The call point, by an item of what it says.
 #[no_mangle]
-pub extern "C" fn probe_point(length: usize, radius: usize, n: u64, out: &mut [i32]) -> u32
-    ensures { λ r. ⌜ (r ≡ numberSaid (pointSays length radius n (now (out .entry))))
+pub extern "C" fn probe_point(
+    length: usize,
+    radius: usize,
+    n: u64,
+    out: &mut [i32],
+    which: usize,
+) -> u64
+    ensures { λ r. ⌜ (r ≡ getD (pointSays length radius n (now (out .entry))) which 0)
         × (now (out .exit) ≡ pointLeaves length radius n (now (out .entry))) ⌝ }
 {
-    match point(Length(length), Radius(radius), n, out) {
-        Pointed::Written => 0,
-        Pointed::Refused(refusal) => number(refusal),
-    }
+    point_item(point(Length(length), Radius(radius), n, out), which)
 }
 
 // The number of what check answers: 0, or the refusal's.

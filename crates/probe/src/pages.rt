@@ -22,7 +22,7 @@ ghost use Rattle.page.specs.Meanings.{takeMeaning, answerMeaning, readMeaning, 
 ghost use Rattle.probe.specs.Coded.{positiveZero};
 
 // An item of a refusal.
-fn refused(refusal: Refusal, which: usize) -> u64
+pub fn refused(refusal: Refusal, which: usize) -> u64
     ensures { λ r. ⌜ r ≡ getD (meaning refusal) which 0 ⌝ }
 {
     let numbers = in_numbers(refusal);
@@ -45,11 +45,22 @@ fn told(answer: u64, reason: u32, which: usize) -> u64
     }
 }
 
+// An item of what is said of a mended place.
+fn mended(distance: u64, which: usize) -> u64
+    ensures { λ r. ⌜ r ≡ getD (0 ∷ 1 ∷ 0 ∷ distance ∷ []) which 0 ⌝ }
+{
+    match which {
+        1 => 1,
+        3 => distance,
+        _ => 0,
+    }
+}
+
 fn take_item(answer: Arrival, which: usize) -> u64
     ensures { λ r. ⌜ r ≡ getD (takeMeaning answer) which 0 ⌝ }
 {
     match answer {
-        Arrival::Taken => told(0, 0, which),
+        Arrival::Taken => 0,
         Arrival::Refused(refusal) => refused(refusal, which),
     }
 }
@@ -58,7 +69,7 @@ fn send_item(answer: Sending, which: usize) -> u64
     ensures { λ r. ⌜ r ≡ getD (sendMeaning answer) which 0 ⌝ }
 {
     match answer {
-        Sending::Written => told(0, 0, which),
+        Sending::Written => 0,
         Sending::Refused(refusal) => refused(refusal, which),
     }
 }
@@ -68,7 +79,7 @@ fn answer_item(answer: Answer, which: usize) -> u64
 {
     match answer {
         Answer::Sound => told(0, 0, which),
-        Answer::Mended => told(1, 0, which),
+        Answer::Mended { distance } => mended(distance, which),
         Answer::Missing => told(2, 0, which),
         Answer::Contested => told(3, 0, which),
         Answer::Unreadable(reason) => told(4, reason, which),
@@ -89,7 +100,7 @@ fn value_item(value: Value, which: usize) -> u64
 {
     match value {
         Value::Sound(_) => told(0, 0, which),
-        Value::Mended(_) => told(1, 0, which),
+        Value::Mended { value: _, distance } => mended(distance, which),
         Value::Missing => told(2, 0, which),
         Value::Contested => told(3, 0, which),
         Value::Unreadable(reason) => told(4, reason, which),
@@ -111,7 +122,7 @@ fn carried(value: Value) -> f32
 {
     match value {
         Value::Sound(v) => v,
-        Value::Mended(v) => v,
+        Value::Mended { value, distance: _ } => value,
         Value::Missing => 0.0,
         Value::Contested => 0.0,
         Value::Unreadable(_) => 0.0,

@@ -1,6 +1,7 @@
 -- Every line of the example holds by computation.
 use mathlib.Core.Path.{refl}
 use Rattle.counts.specs.Counts.{N, binomial, D, S, B, sumAfter, rangeSize, rangeStart}
+use Rattle.counts.specs.Distance.{distance}
 use Rattle.counts.specs.Width.{width, bitsFrom}
 use Rattle.enumeration.specs.Reading.{rangeFrom, rangeOf, patternOf, firstMagnitude, shapeLeft, shapeOf, signsOf, pointFrom, pointWithin, productPoint}
 use Rattle.tables.specs.Row.{byteOf, enumerationOf, badRadius, badRadii, badRow}
@@ -14,10 +15,11 @@ use Rattle.buffers.specs.Joined.{joined}
 use Rattle.report.specs.Example.{Example}
 
 pub example : Example
-unfolding N binomial D S B sumAfter rangeSize rangeStart width bitsFrom rangeFrom rangeOf patternOf firstMagnitude shapeLeft shapeOf signsOf pointFrom pointWithin productPoint byteOf enumerationOf badRadius badRadii badRow rowAt placesBefore rowsBefore stateAt recordAt setCell badCell takeCell refusals arrive after partsFrom judgeCodeword judgeRecord judge countOf decimal digitsOf joined
+unfolding N binomial D S B sumAfter rangeSize rangeStart distance width bitsFrom rangeFrom rangeOf patternOf firstMagnitude shapeLeft shapeOf signsOf pointFrom pointWithin productPoint byteOf enumerationOf badRadius badRadii badRow rowAt placesBefore rowsBefore stateAt recordAt setCell badCell takeCell refusals arrive after partsFrom judgeCodeword judgeRecord judge countOf decimal digitsOf joined
 example =
     record {
       whole-case = refl;
+      past-end = refl;
       no-records = refl;
       damaged = refl;
       foreign-row = refl;

@@ -18,6 +18,8 @@ nines n = replicate n 9
 pub record Example : Type 0 where
   -- as the rules print it
   pub whole-case : listing wholeCase (first ++ second) ≡ ascii "0 sound 0 1 0 -1\n1 mended 0 0 -1 1\ntally 1 1 0 0 0 0\n"
+  -- codeword 20, which is 2 past the end
+  pub past-end : listing wholeCase (first ++ of 1 0 1 20) ≡ ascii "0 sound 0 1 0 -1\n1 mended 2 1 0 1\ntally 1 1 0 0 0 0\n"
   -- no records at all
   pub no-records : listing wholeCase [] ≡ ascii "0 missing 0 0 0 0\n1 missing 0 0 0 0\ntally 0 0 2 0 0 0\n"
   -- a record that differs, one that cannot be read, one of no place, and a shorter last part

@@ -7,15 +7,15 @@ use Rattle.buffers.specs.Joined.{joined}
 use Rattle.tables.specs.Table.{placesIn, tableChecks, rowFor}
 use Rattle.layout.specs.Layout.{cellAt, emptyPage}
 use Rattle.rules.specs.Taking.{Received, collected}
-use Rattle.rules.specs.Judging.{judge, answerNumber, reasonOf, shown}
+use Rattle.rules.specs.Judging.{judge, answerNumber, reasonOrDistance, shown}
 use Rattle.rules.specs.Tallying.{tallyOf}
 use Rattle.rules.specs.declared.Judged.{Judged}
 use Rattle.text.specs.Text.{placeText, lastText, refusedText}
 
--- "place, answer, reason (0 where there is none), then the l coordinates", for place p with the answer j; a place
--- without a point has zeros
+-- "place, answer, reason or distance (0 where there is neither), then the l coordinates", for place p with the answer
+-- j; a place without a point has zeros
 abbrev pub lineOf : List ℕ → ℕ → Judged → List ℕ
-lineOf row p j = placeText p (answerNumber j) (reasonOf j) (shown row j)
+lineOf row p j = placeText p (answerNumber j) (reasonOrDistance j) (shown row j)
 
 -- of a place p in a row
 abbrev pub lineIn : List ℕ → List ℕ → ℕ → List ℕ

@@ -18,7 +18,7 @@ use Rattle.rules.specs.declared.Judged.the-variants as judged
 -- there are five answers
 pub five-answers : (j : Judged) → answerNumber j < 5
 five-answers (judged.Sound k n) = omega arith
-five-answers (judged.Mended k n) = omega arith
+five-answers (judged.Mended k n d) = omega arith
 five-answers judged.Missing = omega arith
 five-answers judged.Contested = omega arith
 five-answers (judged.Unreadable reason) = omega arith

@@ -2,6 +2,7 @@
 use mathlib.Core.Path.{refl}
 use lib.Ieee.{toBits, round}
 use Rattle.counts.specs.Counts.{N, binomial, D, S, B, sumAfter, rangeSize, rangeStart}
+use Rattle.counts.specs.Distance.{distance}
 use Rattle.counts.specs.Width.{width, bitsFrom}
 use Rattle.enumeration.specs.Product.{patternIndex, shapeOffset, shapeIndex, signIndex, indexFrom, productIndex}
 use Rattle.enumeration.specs.Reading.{rangeFrom, rangeOf, patternOf, firstMagnitude, shapeLeft, shapeOf, signsOf, pointFrom, pointWithin, productPoint}
@@ -15,7 +16,7 @@ use Rattle.rules.specs.Tallying.{countOf}
 use Rattle.rules.specs.Example.{Example}
 
 pub example : Example
-unfolding toBits round N binomial D S B sumAfter rangeSize rangeStart width bitsFrom patternIndex shapeOffset shapeIndex signIndex indexFrom productIndex rangeFrom rangeOf patternOf firstMagnitude shapeLeft shapeOf signsOf pointFrom pointWithin productPoint over256 byteOf enumerationOf badRadius badRadii badRow rowAt placesBefore rowsBefore stateAt recordAt setCell claims badCell takeCell refusals arrive after partsFrom judgeCodeword judgeRecord judge countOf
+unfolding toBits round N binomial D S B sumAfter rangeSize rangeStart distance width bitsFrom patternIndex shapeOffset shapeIndex signIndex indexFrom productIndex rangeFrom rangeOf patternOf firstMagnitude shapeLeft shapeOf signsOf pointFrom pointWithin productPoint over256 byteOf enumerationOf badRadius badRadii badRow rowAt placesBefore rowsBefore stateAt recordAt setCell claims badCell takeCell refusals arrive after partsFrom judgeCodeword judgeRecord judge countOf
 example =
     record {
       empty-page = refl;
@@ -54,6 +55,8 @@ example =
       sound-leaves = refl;
       mended-says = refl;
       mended-leaves = refl;
+      past-says = refl;
+      past-leaves = refl;
       missing-says = refl;
       missing-leaves = refl;
       contested-says = refl;
@@ -64,10 +67,16 @@ example =
       garbage-contested = refl;
       codeword-17 = refl;
       codeword-18 = refl;
+      codeword-20 = refl;
       codeword-31 = refl;
       codeword-32 = refl;
       codeword-0-0 = refl;
       codeword-0-1 = refl;
+      field-sound = refl;
+      field-mended = refl;
+      field-missing = refl;
+      field-contested = refl;
+      field-unreadable = refl;
       reason-10 = refl;
       any-row = refl;
       coefficient-sound = refl;
@@ -75,6 +84,7 @@ example =
       values-1 = refl;
       values-2 = refl;
       coefficient-mended = refl;
+      coefficient-past = refl;
       scaled-0 = refl;
       scaled-1 = refl;
       scaled-2 = refl;

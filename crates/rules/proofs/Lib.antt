@@ -8,6 +8,8 @@ pub mod EitherOrder
 pub mod Grown
 pub mod Runs
 pub mod Blocks
+pub mod InEachCase
+pub mod Mending
 pub mod Shows
 pub mod Reasons
 pub mod Pages

@@ -1,58 +1,20 @@
--- A place that shows a point: its index, mended or not, names a point of a usable shell of the row, for any lawful
--- enumeration.
-use Prim.Native.Nat.{ℕ, zero, suc, _+_, _-_, _^_, _≤_, _<_}
+-- What a place shows: its index, mended or not, names a point of a usable shell of the row, for any lawful enumeration;
+-- and a mended place tells the codeword that was received.
+use Prim.Native.Nat.{ℕ, zero, suc, _-_, _^_, _≤_, _<_}
 use mathlib.Core.Path.{_≡_, refl, ap}
 use mathlib.Core.List.{List, _∷_}
-use mathlib.Core.Bool.{Bool, true, false}
 use native.Mathlib.Omega.{arith}
-use native.Mathlib.Decide.{decLt}
-use native.Mathlib.Nat.{pow-suc}
-use lib.Dec.{leb, ltb}
 use lib.IntN.{pos}
 use lib.ListN.{replicate, length-replicate}
-use borrow.Author.Tests.{leb-false, ltb-true, ltb-false}
-use Rattle.answers.specs.Checks.{pick}
 use Rattle.counts.specs.Width.{width}
-use Rattle.counts.proofs.Widths.{width-of-1, width-enough, width-tight}
 use Rattle.enumeration.specs.Enumeration.{Enumeration, Lawful, Full}
 use Rattle.enumeration.specs.Point.{OnShell, radiusOf}
-use Rattle.tables.specs.Usable.{IsUsable}
-use Rattle.tables.specs.Row.{lengthOf, radiiOf, radiusAt, enumerationOf, shellTotal, GoodRow}
-use Rattle.records.specs.Record.{radiusNumberIn, codewordIn}
+use Rattle.tables.specs.Row.{lengthOf, radiiOf, enumerationOf, GoodRow}
+use Rattle.records.specs.Record.{codewordIn}
 use Rattle.layout.specs.Layout.{Cell}
-use Rattle.rules.specs.Taking.{byState}
-use Rattle.rules.specs.Judging.{judgeCodeword, judgeRecord, judge, NamesPoint, Shows}
-use Rattle.rules.specs.declared.Judged.the-variants as judged
-
--- a codeword below 2^b and not below the total: the total is not 1, where b is 0
-pub above-one : (total n : ℕ) → 0 < total → n < 2 ^ width total → total ≤ n → 1 < total
-above-one total n some inside above = go (decLt 1 total)
-  where
-    go : Dec (1 < total) → 1 < total
-    go (yes h) = h
-    go (no h) =
-        let one : total ≡ 1 = omega arith in
-        let none : n < 2 ^ width 1 = rw one at inside in
-        let no-bits : 2 ^ width 1 ≡ 1 = rw width-of-1 refl in
-        absurd (omega arith)
-
--- so b is not 0
-pub some-bits : (total : ℕ) → 1 < total → 1 ≤ width total
-some-bits total h = go (width total) (width-enough total)
-  where
-    go : (b : ℕ) → total ≤ 2 ^ b → 1 ≤ b
-    go zero e = absurd (omega arith)
-    go (suc b) e = omega arith
-
--- and what is left when 2^(b-1) is subtracted is below the total
-mended-below : (total n : ℕ) → 0 < total → n < 2 ^ width total → total ≤ n → n - 2 ^ (width total - 1) < total
-mended-below total n some inside above =
-    let more = above-one total n some inside above in
-    omega (arith, halves (width total) (some-bits total more), width-tight total more)
-  where
-    halves : (b : ℕ) → 1 ≤ b → 2 ^ b ≡ 2 ^ (b - 1) + 2 ^ (b - 1)
-    halves zero h = absurd (omega arith)
-    halves (suc b) h = let same : suc b - 1 ≡ b = omega arith in rw same (omega (arith, pow-suc 2 b))
+use Rattle.rules.specs.Judging.{judge, NamesPoint, Shows, TellsCodeword}
+use Rattle.rules.proofs.InEachCase.{radiusNumber, radius, total, codeword, in-each}
+use Rattle.rules.proofs.Mending.{mended-below, mends}
 
 -- some point is on every shell of length 1 or more, so its total is not 0
 zeros-sum : (n : ℕ) → radiusOf (replicate n (pos 0)) ≡ 0
@@ -66,44 +28,40 @@ pub total-positive : {e : Enumeration} → Lawful e → (l k : ℕ) → 1 ≤ l 
 total-positive lawful zero k h = absurd (omega arith)
 total-positive lawful (suc l) k h = omega (arith, lawful .index-below (suc l) k (pos k ∷ replicate l (pos 0)) (some-point l k))
 
--- in a good row whose enumeration is lawful, and names a point by every index below its total
-module _ (row : List ℕ) (lawful : Lawful (enumerationOf row)) (full : Full (enumerationOf row)) (good : GoodRow row) where
-  named : (k n : ℕ) → IsUsable (lengthOf row) k (shellTotal row k) → n < shellTotal row k → NamesPoint row k n
-  named k n usable below = record { usable = usable; below = below; named = full (lengthOf row) k n below }
+-- in a good row whose enumeration is lawful
+module _ (row : List ℕ) (lawful : Lawful (enumerationOf row)) (good : GoodRow row) (c : Cell) where
+  some : 0 < total row c
+  some = total-positive lawful (lengthOf row) (radius row c) (good .length-from)
 
-  codeword-shows : (k n : ℕ) → IsUsable (lengthOf row) k (shellTotal row k) → Shows row (judgeCodeword (shellTotal row k) k n)
-  unfolding judgeCodeword
-  codeword-shows k n usable = go (leb (2 ^ width (shellTotal row k)) n) (ltb n (shellTotal row k)) refl refl
-    where
-      total : ℕ
-      total = shellTotal row k
+  pub judge-tells : TellsCodeword row (codewordIn (c .bytes)) (judge row c)
+  judge-tells =
+      in-each row c (TellsCodeword row (codewordIn (c .bytes)))
+      (record {
+        missing = tt;
+        contested = tt;
+        no-radius = tt;
+        too-wide = tt;
+        sound = λ h below. tt;
+        mended = λ h inside above. mends (total row c) (codeword row c) some inside above;
+      })
 
-      go : (a b : Bool) → leb (2 ^ width total) n ≡ a → ltb n total ≡ b
-          → Shows row (pick a (judged.Unreadable 14) (pick b (judged.Sound k n) (judged.Mended k (n - 2 ^ (width total - 1)))))
-      go true b p q = tt
-      go false true p q = named k n usable (ltb-true n total q)
-      go false false p q =
-          named k (n - 2 ^ (width total - 1)) usable
-          (mended-below total n (total-positive lawful (lengthOf row) k (good .length-from)) (leb-false (2 ^ width total) n p) (ltb-false n total q))
+  -- and where every index below the total names a point
+  module _ (full : Full (enumerationOf row)) where
+    named : (m : ℕ) → radiusNumber row c < radiiOf row → m < total row c → NamesPoint row (radius row c) m
+    named m h below = record {
+      usable = good .radius-usable (radiusNumber row c) h;
+      below = below;
+      named = full (lengthOf row) (radius row c) m below;
+    }
 
-  record-shows : (y : List ℕ) → Shows row (judgeRecord row y)
-  unfolding judgeRecord
-  record-shows y = go (leb (radiiOf row) (radiusNumberIn y)) refl
-    where
-      k : ℕ
-      k = radiusAt row (radiusNumberIn y)
-
-      go : (b : Bool) → leb (radiiOf row) (radiusNumberIn y) ≡ b
-          → Shows row (pick b (judged.Unreadable 10) (judgeCodeword (shellTotal row k) k (codewordIn y)))
-      go true q = tt
-      go false q = codeword-shows k (codewordIn y) (good .radius-usable (radiusNumberIn y) (leb-false (radiiOf row) (radiusNumberIn y) q))
-
-  -- what a cell shows is such a point
-  pub judge-shows : (c : Cell) → Shows row (judge row c)
-  unfolding judge
-  judge-shows c = go (c .state)
-    where
-      go : (s : ℕ) → Shows row (byState s judged.Missing (judgeRecord row (c .bytes)) judged.Contested)
-      go zero = tt
-      go (suc zero) = record-shows (c .bytes)
-      go (suc (suc s)) = tt
+    pub judge-shows : Shows row (judge row c)
+    judge-shows =
+        in-each row c (Shows row)
+        (record {
+          missing = tt;
+          contested = tt;
+          no-radius = tt;
+          too-wide = tt;
+          sound = named (codeword row c);
+          mended = λ h inside above. named (codeword row c - 2 ^ (width (total row c) - 1)) h (mended-below (total row c) (codeword row c) some inside above);
+        })

@@ -11,7 +11,7 @@ use lib.ListN.{take, drop, replicate}
 use Rattle.tables.specs.Example.{wholeCase, ofPlaces}
 use Rattle.layout.specs.Layout.{Cell, emptyPage}
 use Rattle.rules.specs.Taking.{claims, badCell, takeSays, takeLeaves, collected}
-use Rattle.rules.specs.Judging.{judge}
+use Rattle.rules.specs.Judging.{judge, reasonOrDistance}
 use Rattle.rules.specs.Reading.{readSays, readLeaves, coefficientSays, coefficientCarries}
 use Rattle.rules.specs.Tallying.{tallySays}
 use Rattle.rules.specs.declared.Judged.the-variants as judged
@@ -36,6 +36,10 @@ other = of 0 0 1 7
 
 abbrev pub page : List ℕ
 page = 1 ∷ first ++ 1 ∷ second
+
+-- the first record, and one whose codeword is 2 past the end
+abbrev pub past : List ℕ
+past = 1 ∷ first ++ 1 ∷ of 1 0 1 20
 
 -- the row of the whole case twice: places 0 and 1 are in row 0, places 2 and 3 in row 1; and a page of it that holds
 -- a record of place 1 and one of place 2
@@ -144,8 +148,10 @@ pub record Example : Type 0 where
   -- ---- reading
   pub sound-says : readSays wholeCase page 0 zeros ≡ 0 ∷ 0 ∷ 0 ∷ []
   pub sound-leaves : readLeaves wholeCase page 0 zeros ≡ pos 1 ∷ pos 0 ∷ negsuc 0 ∷ []
-  pub mended-says : readSays wholeCase page 1 zeros ≡ 0 ∷ 1 ∷ 0 ∷ []
+  pub mended-says : readSays wholeCase page 1 zeros ≡ 0 ∷ 1 ∷ 0 ∷ 0 ∷ []
   pub mended-leaves : readLeaves wholeCase page 1 zeros ≡ pos 0 ∷ negsuc 0 ∷ pos 1 ∷ []
+  pub past-says : readSays wholeCase past 1 zeros ≡ 0 ∷ 1 ∷ 0 ∷ 2 ∷ []
+  pub past-leaves : readLeaves wholeCase past 1 zeros ≡ pos 1 ∷ pos 0 ∷ pos 1 ∷ []
   -- the other three write zeros into a buffer of nines; so do an empty and a contested cell with bytes in them
   pub missing-says : readSays wholeCase (replicate 18 0) 1 nines ≡ 0 ∷ 2 ∷ 0 ∷ []
   pub missing-leaves : readLeaves wholeCase (replicate 18 0) 1 nines ≡ zeros
@@ -155,13 +161,20 @@ pub record Example : Type 0 where
   pub unreadable-leaves : readLeaves wholeCase damaged 1 nines ≡ zeros
   pub garbage-missing : readSays wholeCase garbled 0 nines ≡ 0 ∷ 2 ∷ 0 ∷ []
   pub garbage-contested : readSays wholeCase garbled 1 nines ≡ 0 ∷ 3 ∷ 0 ∷ []
-  -- codewords: N - 1, N, 2^b - 1, 2^b; at radius 0, where b is 0, 0 and 1
+  -- codewords: N - 1, N, 2 more, 2^b - 1, 2^b; at radius 0, where b is 0, 0 and 1
   pub codeword-17 : judge wholeCase (held (of 0 0 1 17)) ≡ judged.Sound 2 17
-  pub codeword-18 : judge wholeCase (held (of 0 0 1 18)) ≡ judged.Mended 2 2
-  pub codeword-31 : judge wholeCase (held (of 0 0 1 31)) ≡ judged.Mended 2 15
+  pub codeword-18 : judge wholeCase (held (of 0 0 1 18)) ≡ judged.Mended 2 2 0
+  pub codeword-20 : judge wholeCase (held (of 0 0 1 20)) ≡ judged.Mended 2 4 2
+  pub codeword-31 : judge wholeCase (held (of 0 0 1 31)) ≡ judged.Mended 2 15 13
   pub codeword-32 : judge wholeCase (held (of 0 0 1 32)) ≡ judged.Unreadable 14
   pub codeword-0-0 : judge wholeCase (held (of 0 0 0 0)) ≡ judged.Sound 0 0
   pub codeword-0-1 : judge wholeCase (held (of 0 0 0 1)) ≡ judged.Unreadable 14
+  -- the reason or the distance in one field
+  pub field-sound : reasonOrDistance (judged.Sound 2 17) ≡ 0
+  pub field-mended : reasonOrDistance (judged.Mended 2 4 2) ≡ 2
+  pub field-missing : reasonOrDistance judged.Missing ≡ 0
+  pub field-contested : reasonOrDistance judged.Contested ≡ 0
+  pub field-unreadable : reasonOrDistance (judged.Unreadable 14) ≡ 14
   -- the reasons in their order; what row a record names is not asked here
   pub reason-10 : judge wholeCase (held (of 0 0 2 99)) ≡ judged.Unreadable 10
   pub any-row : judge wholeCase (held (of 0 1 1 5)) ≡ judged.Sound 2 5
@@ -171,7 +184,8 @@ pub record Example : Type 0 where
   pub values-0 : map (toBits binary32) (coefficientCarries wholeCase page 0 0) ≡ 1065353216 ∷ []
   pub values-1 : map (toBits binary32) (coefficientCarries wholeCase page 0 1) ≡ 0 ∷ []
   pub values-2 : map (toBits binary32) (coefficientCarries wholeCase page 0 2) ≡ 3212836864 ∷ []
-  pub coefficient-mended : coefficientSays step-775 page 1 1 ≡ 0 ∷ 1 ∷ 0 ∷ []
+  pub coefficient-mended : coefficientSays step-775 page 1 1 ≡ 0 ∷ 1 ∷ 0 ∷ 0 ∷ []
+  pub coefficient-past : coefficientSays step-775 past 1 1 ≡ 0 ∷ 1 ∷ 0 ∷ 2 ∷ []
   pub scaled-0 : map (toBits binary32) (coefficientCarries step-775 page 1 0) ≡ 0 ∷ []
   pub scaled-1 : map (toBits binary32) (coefficientCarries step-775 page 1 1) ≡ 3225534464 ∷ []
   pub scaled-2 : map (toBits binary32) (coefficientCarries step-775 page 1 2) ≡ 1078050816 ∷ []

@@ -1,7 +1,7 @@
 -- The answer of a place (docs/RULES.md, "The page": "Reading a place"). One definition, `judge`, gives the answer
 -- of a cell; the readers and the tally are that definition. `row` is the bytes of a row, c a cell.
-use Prim.Native.Nat.{ℕ, _-_, _^_, _<_}
-use mathlib.Core.List.{List}
+use Prim.Native.Nat.{ℕ, _+_, _-_, _^_, _<_}
+use mathlib.Core.List.{List, [], _∷_}
 use mathlib.Core.Path.{_≡_}
 use mathlib.Core.Bool.{true}
 use mathlib.Core.Logic.{_⊎_}
@@ -9,6 +9,7 @@ use lib.Dec.{leb, ltb}
 use lib.IntN.{ℤ, pos}
 use lib.ListN.{replicate}
 use Rattle.answers.specs.Checks.{pick}
+use Rattle.counts.specs.Distance.{distance}
 use Rattle.counts.specs.Width.{width}
 use Rattle.tables.specs.Row.{lengthOf, radiiOf, radiusAt, enumerationOf, shellTotal}
 use Rattle.tables.specs.Table.{rowFor}
@@ -19,12 +20,15 @@ use Rattle.rules.specs.Taking.{byState}
 use Rattle.rules.specs.declared.Judged.{Judged}
 use Rattle.rules.specs.declared.Judged.the-variants as judged
 
--- codeword 2^b or more: unreadable 14; below N: sound; otherwise mended, and 2^(b-1) is subtracted. N is any total,
--- k the radius.
+-- mended: 2^(b-1) is subtracted from the codeword n, whose distance is kept. N is any total, k the radius.
+abbrev pub mendedAs : ℕ → ℕ → ℕ → Judged
+mendedAs total k n = judged.Mended k (n - 2 ^ (width total - 1)) (distance total n)
+
+-- codeword 2^b or more: unreadable 14; below N: sound; otherwise mended
 unfoldable pub judgeCodeword : ℕ → ℕ → ℕ → Judged
 judgeCodeword total k n =
     pick (leb (2 ^ width total) n) (judged.Unreadable 14)
-    (pick (ltb n total) (judged.Sound k n) (judged.Mended k (n - 2 ^ (width total - 1))))
+    (pick (ltb n total) (judged.Sound k n) (mendedAs total k n))
 
 -- a codeword of the shell of radius k in a row
 abbrev pub judgeIn : List ℕ → ℕ → ℕ → Judged
@@ -47,7 +51,7 @@ judgeAt t pg p = judge (rowFor t p) (cellAt pg p)
 -- the five answers, numbered in the order in which the tally counts them
 abbrev pub answerNumber : Judged → ℕ
 answerNumber (judged.Sound k n) = 0
-answerNumber (judged.Mended k n) = 1
+answerNumber (judged.Mended k n d) = 1
 answerNumber judged.Missing = 2
 answerNumber judged.Contested = 3
 answerNumber (judged.Unreadable reason) = 4
@@ -55,15 +59,31 @@ answerNumber (judged.Unreadable reason) = 4
 -- the reason; 0 where there is none
 abbrev pub reasonOf : Judged → ℕ
 reasonOf (judged.Sound k n) = 0
-reasonOf (judged.Mended k n) = 0
+reasonOf (judged.Mended k n d) = 0
 reasonOf judged.Missing = 0
 reasonOf judged.Contested = 0
 reasonOf (judged.Unreadable reason) = reason
 
+-- the distance, which a mended place has and no other
+abbrev pub distanceOf : Judged → List ℕ
+distanceOf (judged.Sound k n) = []
+distanceOf (judged.Mended k n d) = d ∷ []
+distanceOf judged.Missing = []
+distanceOf judged.Contested = []
+distanceOf (judged.Unreadable reason) = []
+
+-- the reason or the distance in one field, as a line of the listing has it; 0 where there is neither
+abbrev pub reasonOrDistance : Judged → ℕ
+reasonOrDistance (judged.Sound k n) = 0
+reasonOrDistance (judged.Mended k n d) = d
+reasonOrDistance judged.Missing = 0
+reasonOrDistance judged.Contested = 0
+reasonOrDistance (judged.Unreadable reason) = reason
+
 -- an unreadable place has the reason 10 or 14, and no other; proofs/Reasons.antt has it of every row and every cell
 abbrev pub Reasoned : Judged → Type 0
 Reasoned (judged.Sound k n) = Unit {0}
-Reasoned (judged.Mended k n) = Unit {0}
+Reasoned (judged.Mended k n d) = Unit {0}
 Reasoned judged.Missing = Unit {0}
 Reasoned judged.Contested = Unit {0}
 Reasoned (judged.Unreadable reason) = (reason ≡ 10) ⊎ (reason ≡ 14)
@@ -75,7 +95,7 @@ pointNamed row k n = enumerationOf row .point (lengthOf row) k n
 -- sound and mended have their point; the other three have zeros
 abbrev pub shown : List ℕ → Judged → List ℤ
 shown row (judged.Sound k n) = pointNamed row k n
-shown row (judged.Mended k n) = pointNamed row k n
+shown row (judged.Mended k n d) = pointNamed row k n
 shown row judged.Missing = replicate (lengthOf row) (pos 0)
 shown row judged.Contested = replicate (lengthOf row) (pos 0)
 shown row (judged.Unreadable reason) = replicate (lengthOf row) (pos 0)
@@ -89,7 +109,22 @@ pub record NamesPoint (row : List ℕ) (k n : ℕ) : Type 0 where
 -- what a place shows is such a point; proofs/Shows.antt has it of every cell in a good row
 abbrev pub Shows : List ℕ → Judged → Type 0
 Shows row (judged.Sound k n) = NamesPoint row k n
-Shows row (judged.Mended k n) = NamesPoint row k n
+Shows row (judged.Mended k n d) = NamesPoint row k n
 Shows row judged.Missing = Unit {0}
 Shows row judged.Contested = Unit {0}
 Shows row (judged.Unreadable reason) = Unit {0}
+
+-- what is told of the codeword that was received, n being the index that is left of it: the distance d is below
+-- 2^b - N, n plus 2^(b-1) is N plus d, and that is the codeword
+pub record Mends (total codeword n d : ℕ) : Type 0 where
+  pub below : d < 2 ^ width total - total
+  pub left : n + 2 ^ (width total - 1) ≡ total + d
+  pub received : total + d ≡ codeword
+
+-- a mended place tells its codeword; proofs/Shows.antt has it of every cell in a good row
+abbrev pub TellsCodeword : List ℕ → ℕ → Judged → Type 0
+TellsCodeword row codeword (judged.Sound k n) = Unit {0}
+TellsCodeword row codeword (judged.Mended k n d) = Mends (shellTotal row k) codeword n d
+TellsCodeword row codeword judged.Missing = Unit {0}
+TellsCodeword row codeword judged.Contested = Unit {0}
+TellsCodeword row codeword (judged.Unreadable reason) = Unit {0}

@@ -13,7 +13,7 @@ use Rattle.tables.specs.Row.{lengthOf, stepOf}
 use Rattle.tables.specs.Table.{rowOf, rowFor}
 use Rattle.layout.specs.Layout.{cellAt}
 use Rattle.rules.specs.Taking.{cellCheck, lookChecks}
-use Rattle.rules.specs.Judging.{judgeAt, answerNumber, reasonOf, shown}
+use Rattle.rules.specs.Judging.{judgeAt, answerNumber, reasonOf, distanceOf, shown}
 use Rattle.rules.specs.declared.Judged.{Judged}
 use Rattle.rules.specs.declared.Judged.the-variants as judged
 
@@ -21,9 +21,9 @@ use Rattle.rules.specs.declared.Judged.the-variants as judged
 abbrev pub pointAt : List ℕ → List ℕ → ℕ → List ℤ
 pointAt t pg p = shown (rowFor t p) (judgeAt t pg p)
 
--- what is told of a place: its answer, and the reason
+-- what is told of a place: its answer, the reason, and the distance of a mended one
 abbrev pub told : Judged → List ℕ
-told j = 0 ∷ answerNumber j ∷ reasonOf j ∷ []
+told j = 0 ∷ answerNumber j ∷ reasonOf j ∷ distanceOf j
 
 -- ---- the call read
 -- Read a place: 7, 8, 4, 12; first what is checked in the row of the place, b being the length of the lent buffer
@@ -62,7 +62,7 @@ valueAt t pg p i = valueIn (rowFor t p) (pointAt t pg p) i
 -- sound and mended carry a value; the other three none
 abbrev pub carried : Judged → Float → List Float
 carried (judged.Sound k n) v = v ∷ []
-carried (judged.Mended k n) v = v ∷ []
+carried (judged.Mended k n d) v = v ∷ []
 carried judged.Missing v = []
 carried judged.Contested v = []
 carried (judged.Unreadable reason) v = []

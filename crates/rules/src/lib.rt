@@ -4,10 +4,20 @@
 // What the cell of a place is judged to be: one of the five answers.
 pub enum Judged {
     // with the radius and the index of its point
-    Sound { radius: usize, index: u64 },
-    Mended { radius: usize, index: u64 },
+    Sound {
+        radius: usize,
+        index: u64,
+    },
+    // and with the distance of the codeword that was received
+    Mended {
+        radius: usize,
+        index: u64,
+        distance: u64,
+    },
     Missing,
     Contested,
     // with its reason
-    Unreadable { reason: u32 },
+    Unreadable {
+        reason: u32,
+    },
 }

@@ -1,6 +1,7 @@
 -- Every line of the table of single values holds by computation.
 use mathlib.Core.Path.{refl}
 use Rattle.counts.specs.Counts.{N, binomial, D, S, B, sumAfter, rangeSize, rangeStart}
+use Rattle.counts.specs.Distance.{distance}
 use Rattle.counts.specs.Width.{width, bitsFrom}
 use Rattle.enumeration.specs.Product.{patternIndex, shapeOffset, shapeIndex, signIndex, indexFrom, productIndex}
 use Rattle.enumeration.specs.Reading.{rangeFrom, rangeOf, patternOf, firstMagnitude, shapeLeft, shapeOf, signsOf, pointFrom, pointWithin, productPoint}
@@ -16,7 +17,7 @@ use lib.Ieee.{toBits, lt}
 use Rattle.starred.specs.Table.{Table}
 
 pub proved : Table
-unfolding N binomial D S B sumAfter rangeSize rangeStart width bitsFrom patternIndex shapeOffset shapeIndex signIndex indexFrom productIndex rangeFrom rangeOf patternOf firstMagnitude shapeLeft shapeOf signsOf pointFrom pointWithin productPoint byteOf enumerationOf badRadius badRadii badRow rowAt placesBefore rowsBefore ofPattern unitsOf unusableCoefficient negative nearestWhole toBits lt firstBest chosenRadiusNumber largest give shared recordOf
+unfolding N binomial D S B sumAfter rangeSize rangeStart distance width bitsFrom patternIndex shapeOffset shapeIndex signIndex indexFrom productIndex rangeFrom rangeOf patternOf firstMagnitude shapeLeft shapeOf signsOf pointFrom pointWithin productPoint byteOf enumerationOf badRadius badRadii badRow rowAt placesBefore rowsBefore ofPattern unitsOf unusableCoefficient negative nearestWhole toBits lt firstBest chosenRadiusNumber largest give shared recordOf
 proved =
     record {
       star-index-0 = refl;
@@ -25,6 +26,7 @@ proved =
       star-index-12 = refl;
       star-index-17 = refl;
       star-point-18 = refl;
+      star-point-20 = refl;
       buffer-kept = refl;
       point-17 = refl;
       index-3 = refl;

@@ -40,7 +40,8 @@ pub record Table : Type 0 where
   pub star-index-11 : indexSays 3 2 (triple (negℤ (pos 1)) (negℤ (pos 1)) (pos 0)) ≡ 0 ∷ 11 ∷ []
   pub star-index-12 : indexSays 3 2 (triple (pos 0) (pos 0) (pos 2)) ≡ 0 ∷ 12 ∷ []
   pub star-index-17 : indexSays 3 2 (triple (negℤ (pos 2)) (pos 0) (pos 0)) ≡ 0 ∷ 17 ∷ []
-  pub star-point-18 : pointSays 3 2 18 buffer ≡ 6 ∷ []
+  pub star-point-18 : pointSays 3 2 18 buffer ≡ 6 ∷ 0 ∷ []
+  pub star-point-20 : pointSays 3 2 20 buffer ≡ 6 ∷ 2 ∷ []
   pub buffer-kept : pointLeaves 3 2 18 buffer ≡ buffer
   pub point-17 : pointLeaves 3 2 17 buffer ≡ triple (negℤ (pos 2)) (pos 0) (pos 0)
   -- refusals 1 to 6 in their order, with two faults at once: 3 before 4, 4 before 5 and 6, a vector or buffer that
@@ -53,7 +54,7 @@ pub record Table : Type 0 where
   pub point-3 : pointSays 16 13 0 [] ≡ 3 ∷ []
   pub point-4-short : pointSays 3 2 18 (take 2 buffer) ≡ 4 ∷ []
   pub point-4-long : pointSays 3 2 0 (pos 9 ∷ buffer) ≡ 4 ∷ []
-  pub point-6-0 : pointSays 3 0 1 buffer ≡ 6 ∷ []
+  pub point-6-0 : pointSays 3 0 1 buffer ≡ 6 ∷ 0 ∷ []
   -- * length 2, radius 3
   pub star-index-2-3-0 : indexSays 2 3 (pos 1 ∷ pos 2 ∷ []) ≡ 0 ∷ 0 ∷ []
   pub star-index-2-3-5 : indexSays 2 3 (pos 2 ∷ negℤ (pos 1) ∷ []) ≡ 0 ∷ 5 ∷ []

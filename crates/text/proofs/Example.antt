@@ -15,6 +15,7 @@ example = record {
   integer-lowest = refl;
   place-0 = refl;
   place-1 = refl;
+  past = refl;
   missing = refl;
   contested = refl;
   unreadable = refl;

@@ -15,6 +15,7 @@ pub record Example : Type 0 where
   pub integer-lowest : integer (negsuc 2147483647) ≡ ascii "-2147483648"
   pub place-0 : placeText 0 0 0 (pos 1 ∷ pos 0 ∷ negsuc 0 ∷ []) ≡ ascii "0 sound 0 1 0 -1\n"
   pub place-1 : placeText 1 1 0 (pos 0 ∷ negsuc 0 ∷ pos 1 ∷ []) ≡ ascii "1 mended 0 0 -1 1\n"
+  pub past : placeText 1 1 2 (pos 1 ∷ pos 0 ∷ pos 1 ∷ []) ≡ ascii "1 mended 2 1 0 1\n"
   pub missing : placeText 2 2 0 (pos 0 ∷ []) ≡ ascii "2 missing 0 0\n"
   pub contested : placeText 3 3 0 (pos 0 ∷ []) ≡ ascii "3 contested 0 0\n"
   pub unreadable : placeText 10 4 14 (pos 0 ∷ []) ≡ ascii "10 unreadable 14 0\n"

@@ -54,9 +54,10 @@ word (suc (suc zero)) = ascii "missing"
 word (suc (suc (suc zero))) = ascii "contested"
 word (suc (suc (suc (suc n)))) = ascii "unreadable"
 
--- "place, answer, reason (0 where there is none), then the l coordinates"; the answer by its number
+-- "place, answer, reason or distance (0 where there is neither), then the l coordinates"; the answer by its number, and
+-- the reason or the distance as the third number
 abbrev pub placeText : ℕ → ℕ → ℕ → List ℤ → List ℕ
-placeText place answer reason coordinates = line (decimal place) (word answer ∷ decimal reason ∷ map integer coordinates)
+placeText place answer third coordinates = line (decimal place) (word answer ∷ decimal third ∷ map integer coordinates)
 
 -- the last line, "`tally`, the five counts of the tally, the number of refused takes": the six numbers
 abbrev pub lastText : List ℕ → List ℕ

@@ -33,6 +33,7 @@ enum thing {
     SOUND_LAST,
     MENDED_FIRST,
     MENDED_LAST,
+    MENDED_FAR,
     FIRST_PAST_WIDTH,
     WIDTH_0_AND_14,
     RADIUS_32_SOUND,
@@ -66,6 +67,7 @@ static const char *const names[THINGS] = {
     [SOUND_LAST] = "places with codeword N - 1, N above 1",
     [MENDED_FIRST] = "places with codeword N that are mended",
     [MENDED_LAST] = "places with codeword 2^b - 1 that are mended",
+    [MENDED_FAR] = "mended places with a distance of 2^24 or more",
     [FIRST_PAST_WIDTH] = "places with codeword 2^b",
     [WIDTH_0_AND_14] = "places with reason 14 and b = 0",
     [RADIUS_32_SOUND] = "sound places of radius 32",
@@ -192,6 +194,7 @@ static void count_shown(struct reading reading, uint64_t codeword)
     count_if(codeword == n - 1 && n > 1, SOUND_LAST);
     count_if(codeword == n, MENDED_FIRST);
     count_if(is_mended && codeword == ((uint64_t)1 << b) - 1, MENDED_LAST);
+    count_if(reading.distance >= 1 << 24, MENDED_FAR);
     for (uint64_t i = 0; i < reading.shell.length; i++) {
         count_if(point[i] > 9, TWO_DIGITS);
         count_if(point[i] < -9, TWO_DIGITS_NEGATIVE);

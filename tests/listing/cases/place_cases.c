@@ -18,7 +18,7 @@ static const uint8_t answers_records[] = {
     RECORD(11, 255, 1, 11),      RECORD(3, 0, 1, 7),  RECORD(12, 1, 8, 0),         RECORD(13, 1, 1, 11),
 };
 static const char answers_text[] = "0 sound 0 -2 0 0\n"
-                                   "1 mended 0 0 -2 0\n"
+                                   "1 mended 13 0 -2 0\n"
                                    "2 missing 0 0 0 0\n"
                                    "3 contested 0 0 0 0\n"
                                    "4 missing 0 0 0 0\n"
@@ -108,11 +108,11 @@ static const char widest_text[] = "0 sound 0 0 0 0 0 1 1 1 1 1 1 1 1 1 1 1 1\n"
                                   "1 sound 0 1 0 0 1 0 0 2 4 0 1 0 1 0 1 1 0\n"
                                   "2 sound 0 -12 0 0 0 0 0 0 0 0 0 0 0 0 0 0 0\n"
                                   "3 mended 0 1 2 1 0 3 0 0 1 1 1 0 1 1 0 0 0\n"
-                                  "4 mended 0 -1 0 0 -1 0 0 -2 -3 0 -2 0 -1 0 -1 -1 0\n"
+                                  "4 mended 719911935 -1 0 0 -1 0 0 -2 -3 0 -2 0 -1 0 -1 -1 0\n"
                                   "tally 3 2 0 0 0 0\n";
 
 /* Length 3 and radius 4, N = 66 and b = 7: every pattern with each of its shapes, the signs in turn. The ranges for
-   s = 3, 2 and 1 start at 0, 24 and 60. The last place is mended, to index 63. */
+   s = 3, 2 and 1 start at 0, 24 and 60. The last place is mended, to index 63; its distance is 61. */
 static const uint8_t shapes_table[] = {3, 2, 0, 4, 0, 0, 0, 0, 0, 0, 1, 0, 0, 16, 0, 0};
 static const uint8_t shapes_records[] = {
     RECORD(0, 0, 1, 1),    RECORD(1, 0, 1, 10),  RECORD(2, 0, 1, 20),  /* s = 3 */
@@ -137,8 +137,40 @@ static const char shapes_text[] = "0 sound 0 1 1 -2\n"
                                   "12 sound 0 0 0 -4\n"
                                   "13 sound 0 0 4 0\n"
                                   "14 sound 0 -4 0 0\n"
-                                  "15 mended 0 0 -4 0\n"
+                                  "15 mended 61 0 -4 0\n"
                                   "tally 15 1 0 0 0 0\n";
+
+/* Mended places with distances of one to ten digits, some of them beside what 8, 16 and 24 bits hold. Row 0 has two
+   shells: N = 18 and b = 5, then N = 66 and b = 7. In rows 1 and 2 b = 32, and N is 2,556,801,700, then 3,575,055,360.
+   In no shell is a distance larger than that of place 13. */
+static const uint8_t distances_table[] = {
+    3,  3, 0, 2,  4, 0, 0, 0, 0, 0, 1, 0, 0, 5, 0, 0, /* places 0 to 4 */
+    10, 2, 0, 21, 0, 0, 0, 0, 0, 0, 1, 0, 0, 9, 0, 0, /* places 5 to 13 */
+    16, 2, 0, 12, 0, 0, 0, 0, 0, 0, 1, 0, 0, 2, 0, 0, /* places 14 and 15 */
+};
+static const uint8_t distances_records[] = {
+    RECORD(0, 0, 1, 19),          RECORD(1, 0, 1, 31),          RECORD(2, 0, 2, 66),          RECORD(3, 0, 2, 100),
+    RECORD(4, 0, 2, 127),         RECORD(5, 1, 1, 2556801709),  RECORD(6, 1, 1, 2556801955),  RECORD(7, 1, 1, 2556801956),
+    RECORD(8, 1, 1, 2556867235),  RECORD(9, 1, 1, 2556867236),  RECORD(10, 1, 1, 2556901699), RECORD(11, 1, 1, 2573578916),
+    RECORD(12, 1, 1, 3556801700), RECORD(13, 1, 1, 0xffffffff), RECORD(14, 2, 1, 3575055361), RECORD(15, 2, 1, 0xffffffff),
+};
+static const char distances_text[] = "0 mended 1 0 -1 -1\n"
+                                     "1 mended 13 0 -2 0\n"
+                                     "2 mended 0 1 -1 2\n"
+                                     "3 mended 34 1 0 3\n"
+                                     "4 mended 61 0 -4 0\n"
+                                     "5 mended 9 3 -1 2 0 -1 3 -1 -3 5 -2\n"
+                                     "6 mended 255 -3 -1 2 0 -1 3 1 3 -5 -2\n"
+                                     "7 mended 256 -3 -1 2 0 -1 3 1 -3 5 2\n"
+                                     "8 mended 65535 3 -1 2 0 -1 4 1 7 -1 -1\n"
+                                     "9 mended 65536 3 -1 2 0 -1 4 1 -7 1 1\n"
+                                     "10 mended 99999 -3 1 -2 0 1 5 1 2 -5 -1\n"
+                                     "11 mended 16777216 5 -3 2 0 -1 3 2 -3 1 1\n"
+                                     "12 mended 1000000000 -4 6 -3 0 1 2 -2 2 1 0\n"
+                                     "13 mended 1738165595 -1 -3 -7 0 0 -1 -1 -6 0 -2\n"
+                                     "14 mended 1 1 2 1 0 3 0 0 1 1 1 0 1 -1 0 0 0\n"
+                                     "15 mended 719911935 -1 0 0 -1 0 0 -2 -3 0 -2 0 -1 0 -1 -1 0\n"
+                                     "tally 0 16 0 0 0 0\n";
 
 static const struct stored_case cases[] = {
     {"every_answer", BYTES(answers_table), BYTES(answers_records), answers_text},
@@ -147,6 +179,7 @@ static const struct stored_case cases[] = {
     {"radius_0", BYTES(radius_0_table), BYTES(radius_0_records), radius_0_text},
     {"widest", BYTES(widest_table), BYTES(widest_records), widest_text},
     {"every_shape", BYTES(shapes_table), BYTES(shapes_records), shapes_text},
+    {"distances", BYTES(distances_table), BYTES(distances_records), distances_text},
 };
 
 /* Length 3 and radius 2, N = 18 and b = 5, then length 2 and radius 3, N = 12 and b = 4: codewords from 0 to
@@ -175,19 +208,19 @@ static const char codewords_text[] = "0 sound 0 0 1 1\n"
                                      "16 sound 0 2 0 0\n"
                                      "17 sound 0 -2 0 0\n"
                                      "18 mended 0 0 -1 1\n"
-                                     "19 mended 0 0 -1 -1\n"
-                                     "20 mended 0 1 0 1\n"
-                                     "21 mended 0 1 0 -1\n"
-                                     "22 mended 0 -1 0 1\n"
-                                     "23 mended 0 -1 0 -1\n"
-                                     "24 mended 0 1 1 0\n"
-                                     "25 mended 0 1 -1 0\n"
-                                     "26 mended 0 -1 1 0\n"
-                                     "27 mended 0 -1 -1 0\n"
-                                     "28 mended 0 0 0 2\n"
-                                     "29 mended 0 0 0 -2\n"
-                                     "30 mended 0 0 2 0\n"
-                                     "31 mended 0 0 -2 0\n"
+                                     "19 mended 1 0 -1 -1\n"
+                                     "20 mended 2 1 0 1\n"
+                                     "21 mended 3 1 0 -1\n"
+                                     "22 mended 4 -1 0 1\n"
+                                     "23 mended 5 -1 0 -1\n"
+                                     "24 mended 6 1 1 0\n"
+                                     "25 mended 7 1 -1 0\n"
+                                     "26 mended 8 -1 1 0\n"
+                                     "27 mended 9 -1 -1 0\n"
+                                     "28 mended 10 0 0 2\n"
+                                     "29 mended 11 0 0 -2\n"
+                                     "30 mended 12 0 2 0\n"
+                                     "31 mended 13 0 -2 0\n"
                                      "32 unreadable 14 0 0 0\n"
                                      "33 sound 0 1 2\n"
                                      "34 sound 0 1 -2\n"
@@ -202,9 +235,9 @@ static const char codewords_text[] = "0 sound 0 0 1 1\n"
                                      "43 sound 0 3 0\n"
                                      "44 sound 0 -3 0\n"
                                      "45 mended 0 2 1\n"
-                                     "46 mended 0 2 -1\n"
-                                     "47 mended 0 -2 1\n"
-                                     "48 mended 0 -2 -1\n"
+                                     "46 mended 1 2 -1\n"
+                                     "47 mended 2 -2 1\n"
+                                     "48 mended 3 -2 -1\n"
                                      "49 unreadable 14 0 0\n"
                                      "tally 30 18 0 0 2 0\n";
 

@@ -3,9 +3,10 @@
 
 #include "../listing.h"
 
-/* docs/RULES.md, "Worked cases": the whole case. */
+/* docs/RULES.md, "Worked cases": the whole case, and the same "with 14 for the last byte". */
 static const uint8_t whole_table[] = {3, 2, 0, 2, 0, 0, 0, 0, 0, 0, 1, 0, 0, 2, 0, 0};
 static const uint8_t whole_records[] = {0, 0, 0, 1, 0, 0, 0, 0x05, 0, 1, 0, 1, 0, 0, 0, 0x12};
+static const uint8_t codeword_20_records[] = {0, 0, 0, 1, 0, 0, 0, 0x05, 0, 1, 0, 1, 0, 0, 0, 0x14};
 
 static const uint8_t three_rows[] = {
     3,  2, 0, 2,  0, 0, 0, 0, 0, 0, 1,    0, 0, 2, 0, 0, /* places 0 and 1 */
@@ -57,7 +58,7 @@ static const char text_of_any_order[] = "0 contested 0 0 0\n"
                                         "6 sound 0 0 3\n"
                                         "7 contested 0 0 0\n"
                                         "8 unreadable 14 0 0\n"
-                                        "9 mended 0 2 -1\n"
+                                        "9 mended 1 2 -1\n"
                                         "10 missing 0 0 0\n"
                                         "tally 2 1 1 6 1 1\n";
 
@@ -83,7 +84,7 @@ static const char foreign_text[] = "0 sound 0 1 0 -1\n"
                                    "2 missing 0 0 0 0\n"
                                    "3 sound 0 2 1\n"
                                    "4 contested 0 0 0\n"
-                                   "5 mended 0 2 -1\n"
+                                   "5 mended 1 2 -1\n"
                                    "6 missing 0 0 0\n"
                                    "7 unreadable 14 0\n"
                                    "8 missing 0 0\n"
@@ -91,6 +92,7 @@ static const char foreign_text[] = "0 sound 0 1 0 -1\n"
 
 static const struct stored_case cases[] = {
     {"whole_case", BYTES(whole_table), BYTES(whole_records), "0 sound 0 1 0 -1\n1 mended 0 0 -1 1\ntally 1 1 0 0 0 0\n"},
+    {"codeword_20", BYTES(whole_table), BYTES(codeword_20_records), "0 sound 0 1 0 -1\n1 mended 2 1 0 1\ntally 1 1 0 0 0 0\n"},
     {"no_records",
      BYTES(three_rows),
      {0},

@@ -13,12 +13,12 @@ void point_shown(struct reading reading, int32_t *point)
         point_of(reading.shell, reading.index, point);
 }
 
-/* "place, answer, reason (0 where there is none), then the l coordinates of the point or l zeros". */
+/* "place, answer, reason or distance (0 where there is neither), then the l coordinates of the point or l zeros". */
 static void print_place(uint64_t place, struct reading reading, uint64_t length)
 {
     int32_t point[MOST_LENGTH];
     point_shown(reading, point);
-    printf("%lu %s %lu", place, reading_words[reading.word], reading.reason);
+    printf("%lu %s %lu", place, reading_words[reading.word], reading.word == MENDED ? reading.distance : reading.reason);
     for (uint64_t i = 0; i < length; i++)
         printf(" %d", point[i]);
     printf("\n");

@@ -2,11 +2,11 @@
    shell or the table, what was expected and what came. What a call is lent lies among guards; only a point that is
    answered may change it. */
 
+#include "../kinds/lent_calls.h"
 #include "comparisons.h"
 
 #include <stdio.h>
 #include <stdlib.h>
-#include <string.h>
 
 struct comparisons compared;
 
@@ -53,7 +53,7 @@ void expect_index(struct shell shell, const int32_t *point, uint64_t point_lengt
 void read_point(struct shell shell, uint64_t index, int32_t *point)
 {
     struct point_room room = garbage();
-    uint32_t got = probe_point(shell.length, shell.radius, index, room.cells + GUARDS, shell.length);
+    uint64_t got = probe_point(shell.length, shell.radius, index, room.cells + GUARDS, shell.length, 0);
     for (uint64_t i = 0; i < shell.length; i++)
         point[i] = room.cells[GUARDS + i];
     const struct point_room allowed = garbage_around(point, shell.length);
@@ -61,18 +61,17 @@ void read_point(struct shell shell, uint64_t index, int32_t *point)
         compared.points++;
         return;
     }
-    print_call("probe_point", shell, shell.length);
-    printf(", index %lu", index);
+    print_pointing("probe_point", &(struct pointing){shell, index, shell.length});
     if (got == 0)
-        end("something is written outside the buffer");
-    differ(0, as_answer(got));
+        end("something is written beside the output");
+    wrong_item((struct list){{0}}, 0, got);
 }
 
 /* An answered point that cannot be the point of the index. */
 void wrong_point(struct shell shell, uint64_t index, const int32_t *point, const char *what)
 {
-    print_call("probe_point", shell, shell.length);
-    printf(", index %lu: expected a point of that index, got %s,", index, what);
+    print_pointing("probe_point", &(struct pointing){shell, index, shell.length});
+    printf(": expected a point of that index, got %s,", what);
     print_point("", point, shell.length);
     printf("\n");
     exit(1);
@@ -80,49 +79,32 @@ void wrong_point(struct shell shell, uint64_t index, const int32_t *point, const
 
 void expect_point(struct shell shell, uint64_t index, const int32_t *expected)
 {
-    int32_t point[MOST_LENGTH];
-    read_point(shell, index, point);
-    if (memcmp(point, expected, shell.length * sizeof *point) != 0) {
-        print_call("probe_point", shell, shell.length);
-        printf(", index %lu", index);
-        print_point(": expected", expected, shell.length);
-        print_point(", got", point, shell.length);
-        printf("\n");
-        exit(1);
-    }
+    const struct pointing asked = {shell, index, shell.length};
+    expect_pointing("probe_point", probe_point, &asked, (struct list){{0}}, expected);
+    compared.points++;
 }
 
+/* What is named with the refusal is compared too; the program's own rules tell it, and must refuse with that number. */
 void expect_point_refused(struct shell shell, uint64_t index, uint64_t out_length, uint32_t refusal)
 {
-    const struct point_room before = garbage();
-    struct point_room room = before;
-    uint32_t got = probe_point(shell.length, shell.radius, index, room.cells + GUARDS, out_length);
-    if (got == refusal && same_points(&room, &before)) {
-        compared.refusals[refusal]++;
-        return;
-    }
-    print_call("probe_point", shell, out_length);
-    printf(", index %lu", index);
-    if (got == refusal)
-        end("a buffer is written on a refusal");
-    differ(REFUSED + refusal, as_answer(got));
+    int32_t point[MOST_LENGTH] = {0};
+    const struct pointing asked = {shell, index, out_length};
+    const struct list expected = point_at(&asked, point);
+    own_figure("refusal of a point", expected.items[0], refusal);
+    expect_pointing("probe_point", probe_point, &asked, expected, point);
+    compared.refusals[refusal]++;
 }
 
 /* Both calls with no buffer at all: a null pointer and length 0. */
 void expect_refused_without_buffer(struct shell shell, uint64_t index, uint32_t refusal)
 {
     uint64_t from_index = probe_index(shell.length, shell.radius, 0, 0);
-    uint32_t from_point = probe_point(shell.length, shell.radius, index, 0, 0);
     if (from_index != REFUSED + refusal) {
         print_call("probe_index", shell, 0);
         differ(REFUSED + refusal, from_index);
     }
-    if (from_point != refusal) {
-        print_call("probe_point", shell, 0);
-        printf(", index %lu", index);
-        differ(REFUSED + refusal, as_answer(from_point));
-    }
-    compared.refusals[refusal] += 2;
+    compared.refusals[refusal]++;
+    expect_point_refused(shell, index, 0, refusal);
 }
 
 /* Both calls with a pairing table: 0 and the number of its places, or 7 and the row. */

@@ -37,6 +37,12 @@ static const struct {
     {{3, 33}, REFUSED + 2},
 };
 
+/* Indices of length 3 and radius 2 that are past the end, and their distances. */
+static const struct {
+    uint64_t index;
+    uint64_t distance;
+} past_end[] = {{18, 0}, {20, 2}};
+
 void compare_examples(void)
 {
     for (uint64_t i = 0; i < ENTRIES(points); i++) {
@@ -47,6 +53,9 @@ void compare_examples(void)
     }
     for (uint64_t i = 0; i < ENTRIES(counts); i++)
         expect_count(counts[i].shell, counts[i].answer);
-    expect_point_refused((struct shell){3, 2}, 18, 3, 6);
-    printf("examples: %lu points, %lu counts\n", ENTRIES(points), ENTRIES(counts));
+    for (uint64_t i = 0; i < ENTRIES(past_end); i++) {
+        own_figure("distance of an example", distance_of((struct shell){3, 2}, past_end[i].index), past_end[i].distance);
+        expect_point_refused((struct shell){3, 2}, past_end[i].index, 3, 6);
+    }
+    printf("examples: %lu points, %lu counts, %lu distances\n", ENTRIES(points), ENTRIES(counts), ENTRIES(past_end));
 }

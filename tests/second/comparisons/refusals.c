@@ -1,4 +1,4 @@
-/* Refusals 1, 2, 3, 4 and 6 of the first three calls, each together with everything that would be refused later, so
+/* Refusals 1, 2, 3, 4 and 6 of count, index and point, each together with everything that would be refused later, so
    that the order of checks is compared too; docs/RULES.md, "Refusal numbers" and "Order of checks". Refusals 5 and 7
    have files of their own, sums.c and tables.c; those of quantize are in checks.c, and those of the page in
    page_checks.c. */
@@ -26,7 +26,7 @@ static void refuse_buffer(struct shell shell, uint64_t lent, uint32_t refusal)
         expect_point_refused(shell, indices[i], lent, refusal);
 }
 
-/* The first three calls, whatever the buffer. */
+/* The three calls, whatever the buffer. */
 static void refuse_shell(struct shell shell, uint32_t refusal)
 {
     expect_count(shell, REFUSED + refusal);
@@ -72,7 +72,8 @@ static void refuse_wrong_buffers(struct shell shell)
     refuse_buffer(shell, TWO_TO_32 + shell.length, 4);
 }
 
-/* From N on, and what is below N only where a number is cut to 32 bits or read as negative. */
+/* From N on, with distances of every width, and what is below N only where a number is cut to 32 bits or read as
+   negative. */
 static void refuse_indices(struct shell shell)
 {
     const uint64_t n = points_of(shell);
@@ -80,6 +81,8 @@ static void refuse_indices(struct shell shell)
     const uint64_t cut[] = {TWO_TO_32, 2 * TWO_TO_32, REFUSED, TWO_TO_63 - TWO_TO_32, TWO_TO_63, UINT64_MAX - TWO_TO_32 + 1};
     for (uint64_t i = 0; i < ENTRIES(past); i++)
         expect_point_refused(shell, n + past[i], shell.length, 6);
+    for (uint64_t width = 0; width < 64; width++)
+        expect_point_refused(shell, n + chance_below((uint64_t)1 << width), shell.length, 6);
     for (uint64_t i = 0; i < ENTRIES(cut); i++) {
         expect_point_refused(shell, cut[i], shell.length, 6);
         expect_point_refused(shell, cut[i] + n - 1, shell.length, 6);

@@ -81,8 +81,7 @@ void end(const char *last_words)
     exit(1);
 }
 
-/* What probe_point, probe_check, probe_quantize and aldrynja_take return, as an answer of the first two
-   calls of probe.h. */
+/* What probe_check, probe_quantize and aldrynja_take return, as an answer of the first two calls of probe.h. */
 uint64_t as_answer(uint32_t number)
 {
     return number ? REFUSED + number : 0;

@@ -45,11 +45,17 @@ void print_table(const char *call, const struct table *table);
 _Noreturn void differ(uint64_t expected, uint64_t got);
 _Noreturn void end(const char *last_words);
 
+/* lent_list.c: an item of what a call answers, and a wrong one */
+uint64_t any_item(void);
+uint64_t item_of(struct list list, uint64_t which);
+_Noreturn void wrong_item(struct list expected, uint64_t which, uint64_t got);
+
 /* lent_point.c: a point among guards */
 struct point_room garbage(void);
 struct point_room garbage_around(const int32_t *point, uint64_t length);
 int same_points(const struct point_room *one, const struct point_room *other);
 void print_point(const char *what, const int32_t *point, uint64_t length);
+_Noreturn void wrong_output(const struct point_room *room, const int32_t *point, uint64_t length);
 
 /* lent_page.c: a page after a call */
 int is_page_as_it_must_be(const struct page *page, int lent);

@@ -3,36 +3,12 @@
    afterwards: only the page of take and the output of read may change, and only where there is no refusal. */
 
 #include "../draws/draws.h"
-#include "../probe.h" /* for REFUSED alone */
 #include "lent_calls.h"
 
 #include <stdio.h>
 #include <stdlib.h>
-#include <string.h>
 
-enum { ITEMS_OF_READING = 3 };
-
-/* Any item, past the end of every list or not. */
-static uint64_t any_item(void)
-{
-    const uint64_t items[] = {ITEMS, ITEMS + 1, 256, 65536, TWO_TO_32, TWO_TO_32 + 1, TWO_TO_63, UINT64_MAX};
-    return chance_below(2) ? chance_below(ITEMS) : items[chance_below(ENTRIES(items))];
-}
-
-static uint64_t item_of(struct list list, uint64_t which)
-{
-    return which < ITEMS ? list.items[which] : 0;
-}
-
-/* The call was printed before. */
-static _Noreturn void wrong_item(struct list expected, uint64_t which, uint64_t got)
-{
-    const uint64_t item = item_of(expected, which);
-    if (which == 0)
-        differ(item ? REFUSED + item : 0, got ? REFUSED + got : 0);
-    printf(", item %lu of its list: expected %lu, got %lu\n", which, item, got);
-    exit(1);
-}
+enum { ITEMS_OF_READING = 4 }; /* the refusal or 0, the answer, its reason, its distance */
 
 /* The bits of an f32; nothing else is done with it. */
 static uint32_t bits_of_float(float value)
@@ -122,14 +98,7 @@ static void compare_output(const char *name, const struct question *question, co
     if (same_points(room, &wanted))
         return;
     print_question(name, question, "output of");
-    if (length == 0)
-        end("the output is written on a refusal");
-    if (memcmp(room->cells + GUARDS, point, length * sizeof *point) == 0)
-        end("something is written beside the output");
-    print_point(": expected", point, length);
-    print_point(", got", room->cells + GUARDS, length);
-    printf("\n");
-    exit(1);
+    wrong_output(room, point, length);
 }
 
 /* A call for each item. */

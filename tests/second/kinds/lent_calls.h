@@ -1,5 +1,5 @@
-/* One comparison of a call of the page with what is expected of it. The call is handed over, so that nothing here names
-   what is under test. */
+/* One comparison of point, or of a call of the page, with what is expected of it. The call is handed over, so that
+   nothing here names what is under test. */
 
 #ifndef SECOND_LENT_CALLS_H
 #define SECOND_LENT_CALLS_H
@@ -7,6 +7,7 @@
 #include "lent.h"
 
 /* The calls, as probe.h declares them. */
+typedef uint64_t point_call(uint64_t length, uint64_t radius, uint64_t index, int32_t *out, uint64_t out_length, uint64_t which);
 typedef uint64_t take_call(const uint8_t *table, uint64_t table_length, uint8_t *page, uint64_t page_length, const uint8_t *record,
                            uint64_t record_length, uint64_t which);
 typedef uint64_t read_call(const uint8_t *table, uint64_t table_length, const uint8_t *page, uint64_t page_length, uint64_t place,
@@ -17,8 +18,12 @@ typedef float value_call(const uint8_t *table, uint64_t table_length, const uint
                          uint64_t coordinate);
 typedef uint64_t tally_call(const uint8_t *table, uint64_t table_length, const uint8_t *page, uint64_t page_length, uint64_t which);
 
-/* lent_calls.c: the name is what a difference is told with; how many calls it took is returned. The page's own copy is
-   what the page must hold after the call. */
+/* lent_pointing.c: the name is what a difference is told with; nothing is said of the point where there is a refusal */
+void print_pointing(const char *name, const struct pointing *asked);
+void expect_pointing(const char *name, point_call *call, const struct pointing *asked, struct list expected, const int32_t *point);
+
+/* lent_calls.c: so is the name here; how many calls it took is returned. The page's own copy is what the page must
+   hold after the call. */
 uint64_t expect_take(const char *name, take_call *call, const struct taking *taking);
 uint64_t expect_read(const char *name, read_call *call, const struct question *question, struct list expected, const int32_t *point);
 uint64_t expect_coefficient(const char *name, coefficient_call *call, value_call *value, const struct question *question,

@@ -3,6 +3,7 @@
 #include "lent.h"
 
 #include <stdio.h>
+#include <stdlib.h>
 #include <string.h>
 
 /* Numbers that no point of a shell has, all different. */
@@ -33,4 +34,17 @@ void print_point(const char *what, const int32_t *point, uint64_t length)
     for (uint64_t i = 0; i < length && i < MOST_LENT; i++)
         printf(i ? ",%d" : "%d", point[i]);
     printf(")");
+}
+
+/* An output that should have so many numbers of the point, and nothing else; the call was printed before. */
+void wrong_output(const struct point_room *room, const int32_t *point, uint64_t length)
+{
+    if (length == 0)
+        end("the output is written on a refusal");
+    if (memcmp(room->cells + GUARDS, point, length * sizeof *point) == 0)
+        end("something is written beside the output");
+    print_point(": expected", point, length);
+    print_point(", got", room->cells + GUARDS, length);
+    printf("\n");
+    exit(1);
 }

@@ -45,6 +45,8 @@ static const struct {
     [WIDTH_0_14] = {TRKYS, "with codeword 1 and b = 0"},
     [WIDTH_32_SOUND] = {TRKYS, "with a sound cell and b = 32"},
     [WIDTH_32_MENDED] = {TRKYS, "with a mended cell and b = 32"},
+    [DISTANCE_PAST_255] = {RK, "with a mended cell and a distance above 255"},
+    [DISTANCE_PAST_2_24] = {RK, "with a mended cell and a distance of 2^24 or more"},
     [POWER_SOUND] = {TRKYS, "with codeword N - 1 and N a power of two above 1"},
     [POWER_14] = {TRKYS, "with codeword N and N a power of two above 1"},
     [EMPTY_ZEROS] = {TRKY, "with an empty cell of zeros"},

@@ -29,6 +29,8 @@ enum page_kind {
     WIDTH_0_14,
     WIDTH_32_SOUND,
     WIDTH_32_MENDED,
+    DISTANCE_PAST_255,
+    DISTANCE_PAST_2_24,
     POWER_SOUND,
     POWER_14,
     /* the other cells */

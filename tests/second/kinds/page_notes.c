@@ -10,6 +10,7 @@ static void note_codeword(enum page_call call, struct shell shell, uint64_t code
 {
     const uint64_t n = points_of(shell), power = least_power_from(n);
     const int is_sound = codeword < n, is_mended = !is_sound && codeword < power, is_power = n == power;
+    const uint64_t distance = is_mended ? distance_of(shell, codeword) : 0;
     note_shell(call, is_sound ? SOUND : is_mended ? MENDED : UNREADABLE, shell);
     note_page(call, CELL_SOUND, is_sound);
     note_page(call, CELL_MENDED, is_mended);
@@ -25,6 +26,8 @@ static void note_codeword(enum page_call call, struct shell shell, uint64_t code
     note_page(call, WIDTH_0_14, codeword == 1 && power == 1);
     note_page(call, WIDTH_32_SOUND, is_sound && power == TWO_TO_32);
     note_page(call, WIDTH_32_MENDED, is_mended && power == TWO_TO_32);
+    note_page(call, DISTANCE_PAST_255, distance > 255);
+    note_page(call, DISTANCE_PAST_2_24, distance >= 1 << 24);
     note_page(call, POWER_SOUND, codeword == n - 1 && is_power && n > 1);
     note_page(call, POWER_14, codeword == n && is_power && n > 1);
 }

@@ -69,7 +69,7 @@ static struct reading read_record(const struct table *table, uint64_t place, con
         return (struct reading){.word = SOUND, .shell = shell, .index = codeword};
     if (codeword - power / 2 >= n)
         own_error("a mended index is N or more", shell);
-    return (struct reading){.word = MENDED, .shell = shell, .index = codeword - power / 2};
+    return (struct reading){.word = MENDED, .shell = shell, .index = codeword - power / 2, .distance = distance_of(shell, codeword)};
 }
 
 /* A cell that is not at fault. */
@@ -165,7 +165,7 @@ static struct list looked_at(const struct question *question, int32_t *point)
         return refused(12, 0);
     const struct reading reading = read_cell(question->table, question->place, cell);
     write_point(reading, point);
-    return (struct list){{0, reading.word, reading.reason}};
+    return (struct list){{0, reading.word, reading.reason, reading.distance}};
 }
 
 /* "read | 7, 8, 4, 12". On a refusal nothing is said of the point. */

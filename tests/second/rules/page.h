@@ -14,8 +14,7 @@ enum {
     MOST_TAKEN = 17,    /* the bytes of the longest record that is lent, but for those right where a number is cut */
     MOST_OUTPUT = 20,   /* the numbers of the longest output that is lent, but for the same */
     MOST_RUN = 200,     /* the bytes of the longest run, but for the long ones */
-    MOST_ARRIVAL = 208, /* the room for what arrives */
-    ITEMS = 6           /* the most items of a list that a call answers */
+    MOST_ARRIVAL = 208  /* the room for what arrives */
 };
 
 /* Where the fields of a cell begin, and its states. */
@@ -47,17 +46,13 @@ struct question {
     uint64_t number; /* read: the length of the output; coefficient: the coordinate */
 };
 
-/* The list that a call answers; zeros follow it. */
-struct list {
-    uint64_t items[ITEMS];
-};
-
 /* How a cell is read. */
 struct reading {
     enum reading_word word;
     uint64_t reason;    /* of an unreadable one, else 0 */
     struct shell shell; /* of a sound or mended one, and the index in it */
     uint64_t index;
+    uint64_t distance; /* of the codeword of a mended one, else 0 */
 };
 
 /* copies.c: a page in three copies */

@@ -15,6 +15,7 @@ enum {
     MOST_RADII = 8,
     MOST_PLACES = 4096,
     RECORD_SIZE = 8,
+    ITEMS = 6,          /* the most items of a list that a call answers */
     MOST_LENT = 32,     /* the room for the point, or the coefficients, that a call is lent */
     MOST_LENT_ROWS = 38 /* the room for the pairing table that a call is lent */
 };
@@ -30,6 +31,11 @@ enum {
 struct shell {
     uint64_t length;
     uint64_t radius;
+};
+
+/* The list that a call answers; zeros follow it. */
+struct list {
+    uint64_t items[ITEMS];
 };
 
 /* Where the fields of a row of a pairing table begin. */
@@ -90,6 +96,15 @@ uint64_t range_size(struct shell shell, uint64_t s);
 uint64_t magnitude(int32_t coordinate);
 uint64_t rank(struct shell shell, const int32_t *point);
 void point_of(struct shell shell, uint64_t index, int32_t *point);
+
+/* pointing.c: how far an index is past the end, and what point must answer */
+struct pointing {
+    struct shell shell;
+    uint64_t index;
+    uint64_t length; /* of the output, which may be any number */
+};
+uint64_t distance_of(struct shell shell, uint64_t index);
+struct list point_at(const struct pointing *asked, int32_t *point);
 
 /* pairing.c: what is wrong with a pairing table */
 enum fault {

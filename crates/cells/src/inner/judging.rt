@@ -37,6 +37,7 @@ fn judge_past(total: u64, radius: Radius, n: u64) -> Judged
     Judged::Mended {
         radius: radius.0,
         index: n - power(b - 1),
+        distance: n - total,
     }
 }
 

@@ -39,7 +39,8 @@ fn answer(judged: Judged) -> Answer
         Judged::Mended {
             radius: _,
             index: _,
-        } => Answer::Mended,
+            distance,
+        } => Answer::Mended { distance },
         Judged::Missing => Answer::Missing,
         Judged::Contested => Answer::Contested,
         Judged::Unreadable { reason } => Answer::Unreadable(reason),
@@ -110,7 +111,8 @@ fn valued(judged: Judged, v: f32) -> Value
         Judged::Mended {
             radius: _,
             index: _,
-        } => Value::Mended(v),
+            distance,
+        } => Value::Mended { value: v, distance },
         Judged::Missing => Value::Missing,
         Judged::Contested => Value::Contested,
         Judged::Unreadable { reason } => Value::Unreadable(reason),

@@ -1,5 +1,5 @@
-// What a place shows: the number of its answer, the reason, and the point of a sound or mended one or zeros for the
-// others.
+// What a place shows: the number of its answer, the reason or the distance, and the point of a sound or mended one or
+// zeros for the others.
 use cells::inner::judging::Seen;
 use counts::Radius;
 use numbering::inner::Found;
@@ -14,7 +14,7 @@ ghost use lib.ListN as listed;
 ghost use lib.ListN.{replicate};
 ghost use Rattle.cells.specs.Seen.{Handed};
 ghost use Rattle.numbering.specs.Numbered.{FoundIn};
-ghost use Rattle.rules.specs.Judging.{answerNumber, reasonOf, shown, pointNamed, NamesPoint, Shows};
+ghost use Rattle.rules.specs.Judging.{answerNumber, reasonOrDistance, shown, pointNamed, NamesPoint, Shows};
 ghost use Rattle.tables.specs.Row.{lengthOf, IsRow};
 
 // The point of an index in a row, by where it stands.
@@ -55,7 +55,11 @@ pub fn show(row: &[u8], seen: Seen, out: &mut [i32])
     let judged = seen.judged;
     match judged {
         Judged::Sound { radius, index } => write_found(row, radius, index, seen.found, out),
-        Judged::Mended { radius, index } => write_sought(row, radius, index, out),
+        Judged::Mended {
+            radius,
+            index,
+            distance: _,
+        } => write_sought(row, radius, index, out),
         Judged::Missing => clear(out),
         Judged::Contested => clear(out),
         Judged::Unreadable { reason: _ } => clear(out),
@@ -74,6 +78,7 @@ pub fn answer_number(judged: Judged) -> usize
         Judged::Mended {
             radius: _,
             index: _,
+            distance: _,
         } => 1,
         Judged::Missing => 2,
         Judged::Contested => 3,
@@ -81,9 +86,9 @@ pub fn answer_number(judged: Judged) -> usize
     }
 }
 
-// The reason of an unreadable place; 0 where there is none.
-pub fn reason(judged: Judged) -> u32
-    ensures { λ n. ⌜ n ≡ reasonOf judged ⌝ }
+// The reason of an unreadable place, or the distance of a mended one; 0 where there is neither.
+pub fn reason_or_distance(judged: Judged) -> u64
+    ensures { λ n. ⌜ n ≡ reasonOrDistance judged ⌝ }
 {
     match judged {
         Judged::Sound {
@@ -93,9 +98,10 @@ pub fn reason(judged: Judged) -> u32
         Judged::Mended {
             radius: _,
             index: _,
-        } => 0,
+            distance,
+        } => distance,
         Judged::Missing => 0,
         Judged::Contested => 0,
-        Judged::Unreadable { reason } => reason,
+        Judged::Unreadable { reason } => reason as u64,
     }
 }

@@ -8,7 +8,7 @@ use pairing::inner::walking::walk_from;
 use pairing::inner::walking::walked;
 use places::inner::looking::judge_at;
 use places::inner::showing::answer_number;
-use places::inner::showing::reason;
+use places::inner::showing::reason_or_distance;
 use places::inner::showing::show;
 use rows::inner::row::length;
 use rows::inner::row::row_at;
@@ -71,7 +71,14 @@ fn write_seen(
 {
     show(row, seen, point);
     let judged = seen.judged;
-    write_place_line(place, answer_number(judged), reason(judged), point, at, out)
+    write_place_line(
+        place,
+        answer_number(judged),
+        reason_or_distance(judged),
+        point,
+        at,
+        out,
+    )
 }
 
 // The line of a place in this row; where it ends.

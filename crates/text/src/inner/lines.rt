@@ -12,21 +12,22 @@ ghost use lib.ListN.{length};
 ghost use Rattle.buffers.specs.Written.{Wrote};
 ghost use Rattle.text.specs.Text.{decimal, line, placeText, lastText, refusedText};
 
-// The line of a place: its number, the number of its answer, the reason, and at most 16 coordinates.
+// The line of a place: its number, the number of its answer, a third number that is the reason or the distance, and at
+// most 16 coordinates.
 pub fn write_place_line(
     place: usize,
     answer: usize,
-    reason: u32,
+    third: u64,
     coordinates: &[i32],
     at: usize,
     out: &mut [u8],
 ) -> usize
     requires { ⌜ (length (now coordinates) ≤ 16) × (at + 256 ≤ length (now out)) ⌝ }
-    ensures { λ r. ⌜ Wrote (now (out .entry)) at (placeText place answer reason (now (coordinates .entry))) 256 r (now (out .exit)) ⌝ }
+    ensures { λ r. ⌜ Wrote (now (out .entry)) at (placeText place answer third (now (coordinates .entry))) 256 r (now (out .exit)) ⌝ }
 {
     let mut end = write_decimal(place as u64, at, out);
     end = write_word(answer, end, out);
-    end = write_number(reason as u64, end, out);
+    end = write_number(third, end, out);
     end = write_integers(coordinates, end, out);
     write_byte(b'\n', end, out)
 }

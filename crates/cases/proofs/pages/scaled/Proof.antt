@@ -14,7 +14,6 @@ scaled-spec =
     (λ c κs. search needs)
     (λ c κs. search needs)
     (λ c κs. search needs)
-    (λ c κs. search needs)
     nearest-whole-requires
     (λ c. search needs)
     (λ c κs. search needs)

@@ -4,8 +4,10 @@ use Prim.Native.Nat.{ℕ, _-_, _^_}
 use mathlib.Core.Path.{_≡_, ap, _∙_}
 use native.Mathlib.Omega.{arith}
 use borrow.Author.Needs.{needs}
+use Rattle.counts.specs.Distance.{distance}
 use Rattle.counts.specs.Width.{width}
-use Rattle.cells.proofs.Judging.{width-to, codeword-past, width-from, half-to, codeword-mended}
+use Rattle.rules.proofs.Mending.{width-from, half-to}
+use Rattle.cells.proofs.Judging.{width-to, codeword-past, codeword-mended}
 use Rattle.cells.proofs.inner.judging.judge_past.Statement.{statement}
 use Rattle.cells.proofs.inner.judging.judge_past.Tie as tie
 
@@ -25,7 +27,7 @@ sub-power c =
     let st = c .before .before .before in
     let a = st .args in
     let is-power : c .before .power .result ≡ 2 ^ width (a .total) = c .before .power .ensures ∙ ap (λ (b : ℕ). 2 ^ b) (c .before .before .width .ensures) in
-    omega (arith, c .before .before .width .ensures, width-from (a .total) (a .radius .0) (a .n) (st .pre .0) (omega arith) (st .pre .2))
+    omega (arith, c .before .before .width .ensures, width-from (a .total) (a .n) (st .pre .0) (omega arith) (st .pre .2))
 
 power-requires-2 : tie.Need-power-requires-2
 power-requires-2 c κs =
@@ -39,16 +41,17 @@ sub-t9 c =
     let is-width = c .before .before .before .width .ensures in
     let is-power : c .before .before .power .result ≡ 2 ^ width (a .total) = c .before .before .power .ensures ∙ ap (λ (b : ℕ). 2 ^ b) is-width in
     let is-half : c .power2 .result ≡ 2 ^ (width (a .total) - 1) = c .power2 .ensures ∙ ap (λ (b : ℕ). 2 ^ (b - 1)) is-width in
-    omega (arith, half-to (a .total) (a .radius .0) (a .n) (st .pre .0) (omega arith) (st .pre .2))
+    omega (arith, half-to (a .total) (a .n) (st .pre .0) (omega arith) (st .pre .2))
 
 returns-2 : tie.Need-returns-2
+unfolding distance
 returns-2 c =
     let st = c .before .before .before .before in
     let a = st .args in
     let is-width = c .before .before .before .width .ensures in
     let is-power : c .before .before .power .result ≡ 2 ^ width (a .total) = c .before .before .power .ensures ∙ ap (λ (b : ℕ). 2 ^ b) is-width in
     let is-half : c .power2 .result ≡ 2 ^ (width (a .total) - 1) = c .power2 .ensures ∙ ap (λ (b : ℕ). 2 ^ (b - 1)) is-width in
-    (rw is-half (codeword-mended (a .total) (a .radius .0) (a .n) (st .pre .0) (omega arith) (st .pre .2)), tt)
+    (rw is-half (codeword-mended (a .total) (a .radius .0) (a .n) (omega arith) (st .pre .2)), tt)
 
 pub judge-past-spec : {M : Type 1} → statement M
 judge-past-spec =
@@ -61,4 +64,5 @@ judge-past-spec =
     sub-power
     power-requires-2
     sub-t9
+    (λ c. c .before .before .before .before .pre .2)
     returns-2)

@@ -8,16 +8,16 @@ returns : tie.Need-returns
 returns c = rw (c .enum-told .given .1) (refl, refl)
 
 returns-2 : tie.Need-returns-2
-returns-2 c = rw (c .enum-told2 .given .1) (refl, refl)
+returns-2 c = rw (c .before .judged .given .1) (refl, refl)
 
 returns-3 : tie.Need-returns-3
-returns-3 c = rw (c .enum-told3 .given .1) (refl, refl)
+returns-3 c = rw (c .enum-told2 .given .1) (refl, refl)
 
 returns-4 : tie.Need-returns-4
-returns-4 c = rw (c .enum-told4 .given .1) (refl, refl)
+returns-4 c = rw (c .enum-told3 .given .1) (refl, refl)
 
 returns-5 : tie.Need-returns-5
-returns-5 c = rw (c .before .judged .given .1) (refl, refl)
+returns-5 c = rw (c .before .judged2 .given .1) (refl, refl)
 
 pub valued-spec : {M : Type 1} → statement M
 valued-spec =

@@ -4,7 +4,7 @@ use Rattle.report.proofs.inner.block.write_seen.Statement.{statement}
 use Rattle.report.proofs.inner.block.write_seen.Tie as tie
 
 returns : tie.Need-returns
-returns c = rw (c .before .before .before .before .before .before .answer-number .ensures .0, c .before .before .before .before .before .reason .ensures, c .before .before .before .before .before .before .before .before .show .ensures) at (c .before .before .write-place-line .ensures)
+returns c = rw (c .before .before .before .before .before .before .answer-number .ensures .0, c .before .before .before .before .before .reason-or-distance .ensures, c .before .before .before .before .before .before .before .before .show .ensures) at (c .before .before .write-place-line .ensures)
 
 pub write-seen-spec : {M : Type 1} → statement M
 write-seen-spec =

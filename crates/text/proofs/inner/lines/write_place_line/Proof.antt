@@ -12,12 +12,12 @@ returns c =
     let a = c .before .before .before .before .before .before .before .before .before .before .before .before .before .before .before .before .before .before .before .before .before in
     let place = decimal (a .args .place) in
     let answer = word (a .args .answer) in
-    let reason = decimal (a .args .reason) in
+    let third = decimal (a .args .third) in
     let coordinates = map integer (a .args .coordinates .now) in
     let with-answer = one-more place [] (begun (c .before .before .before .before .before .before .before .before .before .before .before .before .before .before .before .before .before .before .write-decimal .ensures)) answer (c .before .before .before .before .before .before .before .before .before .before .before .before .before .before .write-word .ensures) in
-    let with-reason = one-more place (answer ∷ []) with-answer reason (c .before .before .before .before .before .before .before .before .before .before .write-number .ensures) in
-    let with-all = more place (answer ∷ reason ∷ []) with-reason coordinates (c .before .before .before .before .before .before .write-integers .ensures) in
-    ended place (answer ∷ reason ∷ coordinates) with-all (omega (arith, a .pre .0)) (c .before .before .write-byte .ensures)
+    let with-third = one-more place (answer ∷ []) with-answer third (c .before .before .before .before .before .before .before .before .before .before .write-number .ensures) in
+    let with-all = more place (answer ∷ third ∷ []) with-third coordinates (c .before .before .before .before .before .before .write-integers .ensures) in
+    ended place (answer ∷ third ∷ coordinates) with-all (omega (arith, a .pre .0)) (c .before .before .write-byte .ensures)
 
 pub write-place-line-spec : {M : Type 1} → statement M
 write-place-line-spec =

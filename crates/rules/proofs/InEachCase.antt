@@ -1,0 +1,68 @@
+-- The answer of a cell by its cases (docs/RULES.md, "Reading a place"): what holds of the answer in each of them holds
+-- of the answer, whatever the row and the cell.
+use Prim.Native.Nat.{ℕ, zero, suc, _^_, _≤_, _<_}
+use mathlib.Core.Bool.{Bool, true, false}
+use mathlib.Core.List.{List}
+use mathlib.Core.Path.{_≡_, refl}
+use lib.Dec.{leb, ltb}
+use borrow.Author.Tests.{leb-false, ltb-true, ltb-false}
+use Rattle.answers.specs.Checks.{pick}
+use Rattle.counts.specs.Width.{width}
+use Rattle.tables.specs.Row.{radiiOf, radiusAt, shellTotal}
+use Rattle.records.specs.Record.{radiusNumberIn, codewordIn}
+use Rattle.layout.specs.Layout.{Cell}
+use Rattle.rules.specs.Taking.{byState}
+use Rattle.rules.specs.Judging.{mendedAs, judgeCodeword, judgeRecord, judge}
+use Rattle.rules.specs.declared.Judged.{Judged}
+use Rattle.rules.specs.declared.Judged.the-variants as judged
+
+module _ (row : List ℕ) (c : Cell) where
+  -- what a record is judged by: its radius number, the radius, the total of that shell, and the codeword
+  abbrev pub radiusNumber : ℕ
+  radiusNumber = radiusNumberIn (c .bytes)
+
+  abbrev pub radius : ℕ
+  radius = radiusAt row radiusNumber
+
+  abbrev pub total : ℕ
+  total = shellTotal row radius
+
+  abbrev pub codeword : ℕ
+  codeword = codewordIn (c .bytes)
+
+  pub record EachCase (P : Judged → Type 0) : Type 0 where
+    pub missing : P judged.Missing
+    pub contested : P judged.Contested
+    pub no-radius : P (judged.Unreadable 10)
+    pub too-wide : P (judged.Unreadable 14)
+    pub sound : radiusNumber < radiiOf row → codeword < total → P (judged.Sound radius codeword)
+    pub mended : radiusNumber < radiiOf row → codeword < 2 ^ width total → total ≤ codeword
+        → P (mendedAs total radius codeword)
+
+  module _ (P : Judged → Type 0) (each : EachCase P) where
+    codeword-case : radiusNumber < radiiOf row → P (judgeCodeword total radius codeword)
+    unfolding judgeCodeword
+    codeword-case h = go (leb (2 ^ width total) codeword) (ltb codeword total) refl refl
+      where
+        go : (a b : Bool) → leb (2 ^ width total) codeword ≡ a → ltb codeword total ≡ b
+            → P (pick a (judged.Unreadable 14) (pick b (judged.Sound radius codeword) (mendedAs total radius codeword)))
+        go true b e f = each .too-wide
+        go false true e f = each .sound h (ltb-true codeword total f)
+        go false false e f = each .mended h (leb-false (2 ^ width total) codeword e) (ltb-false codeword total f)
+
+    record-case : P (judgeRecord row (c .bytes))
+    unfolding judgeRecord
+    record-case = go (leb (radiiOf row) radiusNumber) refl
+      where
+        go : (b : Bool) → leb (radiiOf row) radiusNumber ≡ b → P (pick b (judged.Unreadable 10) (judgeCodeword total radius codeword))
+        go true e = each .no-radius
+        go false e = codeword-case (leb-false (radiiOf row) radiusNumber e)
+
+    pub in-each : P (judge row c)
+    unfolding judge
+    in-each = go (c .state)
+      where
+        go : (s : ℕ) → P (byState s judged.Missing (judgeRecord row (c .bytes)) judged.Contested)
+        go zero = each .missing
+        go (suc zero) = record-case
+        go (suc (suc s)) = each .contested
