@@ -50,8 +50,8 @@ static void hold(const char *call, uint64_t ours, uint64_t plain, int are_same)
 
 uint64_t agree_on_index(struct shell shell, const int32_t *point, uint64_t point_length)
 {
-    const uint64_t ours = probe_index(shell.length, shell.radius, point, point_length);
-    hold("index", ours, plain_index(shell.length, shell.radius, point, point_length), 1);
+    const uint64_t ours = probe_index(shell.selector, shell.length, shell.radius, point, point_length);
+    hold("index", ours, plain_index(shell.selector, shell.length, shell.radius, point, point_length), 1);
     note(&compared.indices, ours >= REFUSED);
     return ours;
 }
@@ -63,9 +63,9 @@ uint64_t agree_on_point(struct shell shell, uint64_t index, uint64_t out_length)
     uint64_t ours[ITEM_NAMED + 1];
     __builtin_memset(one, GARBAGE, sizeof one);
     __builtin_memset(other, GARBAGE, sizeof other);
-    const struct plain_pointing plain = plain_point(shell.length, shell.radius, index, other, out_length);
+    const struct plain_pointing plain = plain_point(shell.selector, shell.length, shell.radius, index, other, out_length);
     for (uint64_t item = ITEM_REFUSAL; item <= ITEM_NAMED; item++)
-        ours[item] = probe_point(shell.length, shell.radius, index, one, out_length, item);
+        ours[item] = probe_point(shell.selector, shell.length, shell.radius, index, one, out_length, item);
     hold("point", ours[ITEM_REFUSAL], plain.refusal, memcmp(one, other, sizeof one) == 0);
     hold("distance that point names", ours[ITEM_NAMED], plain.distance, 1);
     note(&compared.points, plain.refusal != 0);

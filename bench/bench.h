@@ -99,9 +99,11 @@ void compare_draws(void);
 void compare_calls(void);
 
 /* empty.c: a call of each type that does nothing */
-uint64_t empty_index(uint64_t length, uint64_t radius, const int32_t *point, uint64_t point_length);
-struct plain_pointing empty_point(uint64_t length, uint64_t radius, uint64_t index, int32_t *out, uint64_t out_length);
-uint64_t empty_point_item(uint64_t length, uint64_t radius, uint64_t index, int32_t *out, uint64_t out_length, uint64_t which);
+uint64_t empty_index(uint64_t selector, uint64_t length, uint64_t radius, const int32_t *point, uint64_t point_length);
+struct plain_pointing empty_point(uint64_t selector, uint64_t length, uint64_t radius, uint64_t index, int32_t *out,
+                                  uint64_t out_length);
+uint64_t empty_point_item(uint64_t selector, uint64_t length, uint64_t radius, uint64_t index, int32_t *out, uint64_t out_length,
+                          uint64_t which);
 uint32_t empty_quantize(const uint8_t *table, uint64_t table_length, uint64_t place, const float *coefficients,
                         uint64_t coefficients_length, uint8_t *record, uint64_t record_length);
 uint32_t empty_take(const uint8_t *table, uint64_t table_length, uint8_t *page, uint64_t page_length, const uint8_t *record,
@@ -119,10 +121,10 @@ struct plain_sending empty_send(const uint8_t *table, uint64_t table_length, con
 uint64_t empty_send_item(const uint8_t *table, uint64_t table_length, const float *run, uint64_t run_length, uint8_t *buffer,
                          uint64_t buffer_length, uint64_t which);
 
-/* settings.c: the two tables, of one row and of 32; a table of one row for whole pages alone; and a record of chance
-   for a place of one of the two */
+/* settings.c: the two tables, of one row and of 32; a table of one row for whole pages alone; one of a row with the
+   magnitude enumeration; and a record of chance for a place, but not for one of the whole pages */
 enum { SETTINGS = 2 };
-extern struct setting settings[SETTINGS], long_page;
+extern struct setting settings[SETTINGS], long_page, magnitude_row;
 void begin_settings(void);
 const uint8_t *row_for(const struct setting *setting, uint64_t place);
 void sound_record(const struct setting *setting, uint64_t place, uint8_t *record);

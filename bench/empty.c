@@ -2,21 +2,23 @@
 
 #include "bench.h"
 
-uint64_t empty_index(uint64_t length, uint64_t radius, const int32_t *point, uint64_t point_length)
+uint64_t empty_index(uint64_t selector, uint64_t length, uint64_t radius, const int32_t *point, uint64_t point_length)
 {
-    (void)length, (void)radius, (void)point, (void)point_length;
+    (void)selector, (void)length, (void)radius, (void)point, (void)point_length;
     return 0;
 }
 
-struct plain_pointing empty_point(uint64_t length, uint64_t radius, uint64_t index, int32_t *out, uint64_t out_length)
+struct plain_pointing empty_point(uint64_t selector, uint64_t length, uint64_t radius, uint64_t index, int32_t *out,
+                                  uint64_t out_length)
 {
-    (void)length, (void)radius, (void)index, (void)out, (void)out_length;
+    (void)selector, (void)length, (void)radius, (void)index, (void)out, (void)out_length;
     return (struct plain_pointing){0};
 }
 
-uint64_t empty_point_item(uint64_t length, uint64_t radius, uint64_t index, int32_t *out, uint64_t out_length, uint64_t which)
+uint64_t empty_point_item(uint64_t selector, uint64_t length, uint64_t radius, uint64_t index, int32_t *out, uint64_t out_length,
+                          uint64_t which)
 {
-    (void)length, (void)radius, (void)index, (void)out, (void)out_length, (void)which;
+    (void)selector, (void)length, (void)radius, (void)index, (void)out, (void)out_length, (void)which;
     return 0;
 }
 

@@ -5,7 +5,7 @@
 
 enum { LEAST_ARGUMENTS = 7, SEED_OF_DRAWS = 2, SEED = 1 };
 
-/* The draws begin anew before what is measured, so that the inputs do not depend on what compare_draws draws. */
+/* The draws begin anew before what is measured, so that the inputs do not depend on what is drawn before. */
 int main(int words, char **arguments)
 {
     const int is_measured = words > 1;
@@ -16,8 +16,8 @@ int main(int words, char **arguments)
     begin_settings();
     chance_from(SEED_OF_DRAWS);
     compare_draws();
-    chance_from(SEED);
     compare_calls();
+    chance_from(SEED);
     if (is_measured)
         begin_measuring();
     bench_points();
@@ -29,6 +29,9 @@ int main(int words, char **arguments)
     for (int i = 0; i < SETTINGS; i++)
         bench_sends(&settings[i]);
     bench_sends(&long_page);
+    bench_vectors(&magnitude_row);
+    bench_reads(&magnitude_row);
+    bench_sends(&magnitude_row);
     if (is_measured) {
         bench_programs(arguments + 1);
         print_slow_lines();

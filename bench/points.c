@@ -1,12 +1,14 @@
-/* The index of a point, and the point of an index: all points of a shell equally likely. */
+/* The index of a point, and the point of an index, by both enumerations: all points of a shell equally likely. */
 
 #include "bench.h"
 
 #include <stdio.h>
 
-typedef uint64_t index_call(uint64_t length, uint64_t radius, const int32_t *point, uint64_t point_length);
-typedef struct plain_pointing point_call(uint64_t length, uint64_t radius, uint64_t index, int32_t *out, uint64_t out_length);
-typedef uint64_t point_item_call(uint64_t length, uint64_t radius, uint64_t index, int32_t *out, uint64_t out_length, uint64_t which);
+typedef uint64_t index_call(uint64_t selector, uint64_t length, uint64_t radius, const int32_t *point, uint64_t point_length);
+typedef struct plain_pointing point_call(uint64_t selector, uint64_t length, uint64_t radius, uint64_t index, int32_t *out,
+                                         uint64_t out_length);
+typedef uint64_t point_item_call(uint64_t selector, uint64_t length, uint64_t radius, uint64_t index, int32_t *out,
+                                 uint64_t out_length, uint64_t which);
 
 static struct shell shell; /* the one that is measured */
 static uint64_t indices[INPUTS];
@@ -16,7 +18,7 @@ static void run_index(any_call *call, uint64_t inputs)
 {
     index_call *const index = (index_call *)call;
     for (uint64_t i = 0; i < inputs; i++)
-        index(shell.length, shell.radius, points[i], shell.length);
+        index(shell.selector, shell.length, shell.radius, points[i], shell.length);
 }
 
 static void run_point(any_call *call, uint64_t inputs)
@@ -24,7 +26,7 @@ static void run_point(any_call *call, uint64_t inputs)
     static int32_t out[MOST_LENGTH];
     point_call *const point = (point_call *)call;
     for (uint64_t i = 0; i < inputs; i++)
-        point(shell.length, shell.radius, indices[i], out, shell.length);
+        point(shell.selector, shell.length, shell.radius, indices[i], out, shell.length);
 }
 
 static void run_point_item(any_call *call, uint64_t inputs)
@@ -32,7 +34,7 @@ static void run_point_item(any_call *call, uint64_t inputs)
     static int32_t out[MOST_LENGTH];
     point_item_call *const point = (point_item_call *)call;
     for (uint64_t i = 0; i < inputs; i++)
-        point(shell.length, shell.radius, indices[i], out, shell.length, 0);
+        point(shell.selector, shell.length, shell.radius, indices[i], out, shell.length, 0);
 }
 
 /* Any index below N, and its point, which must lead back. */
@@ -41,22 +43,23 @@ static void draw(uint64_t i)
     indices[i] = chance_below(counts.points[shell.length][shell.radius]);
     if (agree_on_point(shell, indices[i], shell.length) != 0)
         fail("point", "refused");
-    plain_point(shell.length, shell.radius, indices[i], points[i], shell.length);
+    plain_point(shell.selector, shell.length, shell.radius, indices[i], points[i], shell.length);
     if (agree_on_index(shell, points[i], shell.length) != indices[i])
         fail("index", "another than that of the point");
 }
 
 static void bench_shell(void)
 {
+    const char *by = shell.selector == MAGNITUDE ? "magnitude " : "";
     char what[NAME];
     for (uint64_t i = 0; i < INPUTS; i++)
         draw(i);
-    snprintf(what, sizeof what, "index, length %lu, radius %lu", shell.length, shell.radius);
+    snprintf(what, sizeof what, "%sindex, length %lu, radius %lu", by, shell.length, shell.radius);
     measure((struct rivals){what,
                             {run_index, (any_call *)probe_index, (any_call *)empty_index},
                             {run_index, (any_call *)plain_index, (any_call *)empty_index},
                             COUNTED});
-    snprintf(what, sizeof what, "point, length %lu, radius %lu", shell.length, shell.radius);
+    snprintf(what, sizeof what, "%spoint, length %lu, radius %lu", by, shell.length, shell.radius);
     measure((struct rivals){what,
                             {run_point_item, (any_call *)probe_point, (any_call *)empty_point_item},
                             {run_point, (any_call *)plain_point, (any_call *)empty_point},
@@ -65,7 +68,11 @@ static void bench_shell(void)
 
 void bench_points(void)
 {
-    const struct shell shells[] = {{2, 32}, {3, 20}, {4, 16}, {4, 32}, {8, 8}, {8, 12}, {16, 4}, {16, 6}, {16, 12}};
+    const struct shell shells[] = {
+        {2, 32, PRODUCT}, {3, 20, PRODUCT}, {4, 16, PRODUCT}, {4, 32, PRODUCT}, {8, 8, PRODUCT}, {8, 12, PRODUCT},
+        {16, 4, PRODUCT}, {16, 6, PRODUCT}, {16, 12, PRODUCT},
+        {2, 32, MAGNITUDE}, {4, 16, MAGNITUDE}, {8, 8, MAGNITUDE}, {16, 6, MAGNITUDE}, {16, 12, MAGNITUDE},
+    };
     for (uint64_t i = 0; i < ENTRIES(shells); i++) {
         shell = shells[i];
         bench_shell();

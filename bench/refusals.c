@@ -21,11 +21,18 @@ static uint64_t beside(uint64_t right)
     return chance_below(8) ? right : right - 1 + chance_below(3);
 }
 
+/* Mostly 0 or 1; else one beside these, or one of these only where a number is cut. */
+static uint64_t selector_by_chance(void)
+{
+    const uint64_t selector = chance_below(SELECTORS), cut[] = {256, 65536, TWO_TO_32, TWO_TO_63};
+    return chance_below(8) ? beside(selector) : selector + cut[chance_below(ENTRIES(cut))];
+}
+
 /* A shell, usable or not, a vector whose magnitudes often sum to its radius, and indices, one of them far past the
    end. */
 static void try_points(void)
 {
-    const struct shell shell = {chance_below(MOST_LENGTH + 2), chance_below(MOST_RADIUS + 2)};
+    const struct shell shell = {chance_below(MOST_LENGTH + 2), chance_below(MOST_RADIUS + 2), selector_by_chance()};
     const uint64_t n = shell.length <= MOST_LENGTH && shell.radius <= MOST_RADIUS ? counts.points[shell.length][shell.radius] : 0;
     int32_t point[MOST_LENGTH + 2] = {0};
     for (uint64_t left = beside(shell.radius); left > 0 && left <= MOST_RADIUS; left--)

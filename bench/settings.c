@@ -1,5 +1,6 @@
 /* The pairing tables that the calls are measured with: one of a row, and one of 32 rows of all lengths with 4,096
-   places; and for whole pages one of a row of 4,096 places of length 16. */
+   places; for whole pages one of a row of 4,096 places of length 16; and one of a row with the magnitude enumeration.
+   The others have the product enumeration. */
 
 #include "bench.h"
 
@@ -7,6 +8,7 @@ enum { PLACES = 128, STEP = 64 }; /* of each row */
 
 struct setting settings[SETTINGS] = {{.name = "1 row"}, {.name = "32 rows"}};
 struct setting long_page = {.name = "4,096 places of length 16"};
+struct setting magnitude_row = {.name = "1 magnitude row"};
 
 static void begin_row(uint8_t *row, uint64_t length, uint64_t number)
 {
@@ -45,9 +47,11 @@ void begin_settings(void)
     begin_one_row(&settings[0], 8, PLACES);
     begin_rows(&settings[1]);
     begin_one_row(&long_page, MOST_LENGTH, MOST_PLACES);
+    begin_one_row(&magnitude_row, 8, PLACES);
+    magnitude_row.table.bytes[AT_SELECTOR] = MAGNITUDE;
 }
 
-/* Of one of the two. */
+/* Of a table whose rows have 128 places each. */
 const uint8_t *row_for(const struct setting *setting, uint64_t place)
 {
     return setting->table.bytes + place / PLACES * ROW_SIZE;

@@ -94,7 +94,7 @@ static struct plain_reading look_at_held(const uint8_t *row, const uint8_t *reco
     if (index >= power)
         return zeros(UNREADABLE, 14, length, out);
     const int is_sound = index < n;
-    plain_unrank(length, radius, is_sound ? index : index - power / 2, out);
+    plain_unrank(row[AT_SELECTOR], length, radius, is_sound ? index : index - power / 2, out);
     return (struct plain_reading){0, is_sound ? SOUND : MENDED, 0, is_sound ? 0 : (uint32_t)(index - n)};
 }
 

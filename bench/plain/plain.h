@@ -1,6 +1,6 @@
 /* Plain C of the same calls, for speed: the answers, refusals and order of checks of docs/RULES.md, with counts from
-   tables. It shares nothing with the calls that it is measured against, and nothing but the names of fields and sizes
-   with the second program. */
+   tables, but for the magnitude enumeration, which makes its own. It shares nothing with the calls that it is measured
+   against, and nothing but the names of fields, sizes and selectors with the second program. */
 
 #ifndef BENCH_PLAIN_H
 #define BENCH_PLAIN_H
@@ -57,11 +57,18 @@ struct plain_sending {
 /* counts.c */
 void plain_begin(void);
 
-/* points.c: of the calls, and in a usable shell with what has passed the checks */
-uint64_t plain_rank(uint64_t length, uint64_t radius, const int32_t *point);
-void plain_unrank(uint64_t length, uint64_t radius, uint64_t index, int32_t *out);
-uint64_t plain_index(uint64_t length, uint64_t radius, const int32_t *point, uint64_t point_length);
-struct plain_pointing plain_point(uint64_t length, uint64_t radius, uint64_t index, int32_t *out, uint64_t out_length);
+/* product.c and magnitude.c: in a usable shell with what has passed the checks */
+uint64_t plain_product_rank(uint64_t length, uint64_t radius, const int32_t *point);
+void plain_product_unrank(uint64_t length, uint64_t radius, uint64_t index, int32_t *out);
+uint64_t plain_magnitude_rank(uint64_t length, uint64_t radius, const int32_t *point);
+void plain_magnitude_unrank(uint64_t length, uint64_t radius, uint64_t index, int32_t *out);
+
+/* points.c: the same by a selector, and the calls */
+uint64_t plain_rank(uint64_t selector, uint64_t length, uint64_t radius, const int32_t *point);
+void plain_unrank(uint64_t selector, uint64_t length, uint64_t radius, uint64_t index, int32_t *out);
+uint64_t plain_index(uint64_t selector, uint64_t length, uint64_t radius, const int32_t *point, uint64_t point_length);
+struct plain_pointing plain_point(uint64_t selector, uint64_t length, uint64_t radius, uint64_t index, int32_t *out,
+                                  uint64_t out_length);
 
 /* table.c */
 struct survey plain_survey(const uint8_t *table, uint64_t table_length, uint64_t place);

@@ -67,15 +67,16 @@ static inline void give(struct parts *parts, uint64_t length)
     parts->rests[15 - (most & 15)] = 0;
 }
 
-/* The index of the point of a radius above 0. */
-static inline uint64_t codeword(const float *coefficients, uint64_t length, uint32_t radius, struct parts *parts)
+/* The index of the point of a radius above 0, by the row's enumeration. */
+static inline uint64_t codeword(const uint8_t *row, const float *coefficients, uint32_t radius, struct parts *parts)
 {
+    const uint64_t length = row[AT_LENGTH];
     int32_t point[MOST_LENGTH];
     for (uint32_t units = divide(parts, length, radius); units > 0; units--)
         give(parts, length);
     for (uint64_t i = 0; i < length; i++)
         point[i] = coefficients[i] < 0 ? -(int32_t)parts->sizes[i] : (int32_t)parts->sizes[i];
-    return plain_rank(length, radius, point);
+    return plain_rank(row[AT_SELECTOR], length, radius, point);
 }
 
 static inline void put_pair(uint8_t *high, uint64_t number)
@@ -90,7 +91,7 @@ static inline void write_record_of(const uint8_t *row, uint64_t row_number, uint
     struct parts parts;
     round_all(coefficients, row[AT_LENGTH], &parts);
     const uint32_t number = choose(row, parts.sum), radius = row[AT_RADII + number];
-    const uint64_t index = radius == 0 ? 0 : codeword(coefficients, row[AT_LENGTH], radius, &parts);
+    const uint64_t index = radius == 0 ? 0 : codeword(row, coefficients, radius, &parts);
     put_pair(record + AT_PLACE, place);
     record[AT_ROW] = (uint8_t)row_number;
     record[AT_RADIUS_NUMBER] = (uint8_t)number;

@@ -23,7 +23,7 @@ static int is_good(const uint8_t *row)
         return 0;
     if (!are_good_radii(row + AT_RADII, number, counts.largest[length]))
         return 0;
-    return pair_at(row + AT_STEP) != 0 && pair_at(row + AT_PLACES) != 0 && pair_at(row + AT_14) == 0;
+    return pair_at(row + AT_STEP) != 0 && pair_at(row + AT_PLACES) != 0 && row[AT_SELECTOR] < SELECTORS && row[AT_15] == 0;
 }
 
 struct survey plain_survey(const uint8_t *table, uint64_t table_length, uint64_t place)

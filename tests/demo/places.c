@@ -2,7 +2,7 @@
 
 #include "demo.h"
 
-/* Length, number of radii, eight radii, step, places, zeros. */
+/* Length, number of radii, eight radii, step, places, selector, a zero. */
 const struct table demo_table = {
     .size = BANDS * ROW_SIZE,
     .bytes = {

@@ -6,6 +6,8 @@
 #include <stdlib.h>
 #include <string.h>
 
+enum { BITS_SIZE = 4 };
+
 void malformed(const struct text *text, const char *why)
 {
     printf("the cases, line %lu: malformed: %s\n", text->line, why);
@@ -86,6 +88,18 @@ void read_table(struct text *text, struct table *to)
     to->size = read_bytes(text, to->bytes, sizeof to->bytes);
 }
 
+/* The bits of coefficients, high digit first; how many there are. */
+uint64_t read_coefficients(struct text *text, uint32_t *bits, uint64_t most)
+{
+    static uint8_t bytes[BITS_SIZE * MOST_SENT];
+    const uint64_t size = read_bytes(text, bytes, BITS_SIZE * most);
+    if (size % BITS_SIZE != 0)
+        malformed(text, "part of a coefficient");
+    for (uint64_t at = 0; at < size; at += BITS_SIZE)
+        bits[at / BITS_SIZE] = (uint32_t)(two_bytes(bytes + at) * 65536 + two_bytes(bytes + at + 2));
+    return size / BITS_SIZE;
+}
+
 uint64_t read_number(struct text *text)
 {
     uint64_t number = 0;
@@ -100,22 +114,30 @@ uint64_t read_number(struct text *text)
     return number;
 }
 
+/* And the space behind it. */
+uint64_t read_number_field(struct text *text)
+{
+    const uint64_t number = read_number(text);
+    read_word(text, " ");
+    return number;
+}
+
 /* With a minus sign where it is negative. */
 static int32_t read_coordinate(struct text *text)
 {
     const int is_minus = is_next(text, '-');
     text->at += is_minus;
     const uint64_t number = read_number(text);
-    if (number > INT32_MAX)
+    if (number > (uint64_t)INT32_MAX + (uint64_t)is_minus)
         malformed(text, "a coordinate of more than 32 bits");
-    return is_minus ? -(int32_t)number : (int32_t)number;
+    return (int32_t)(is_minus ? -(int64_t)number : (int64_t)number);
 }
 
-/* All that an output of this length must hold. */
+/* So many, with a space between: a vector that is lent, or all that an output must hold. */
 void read_coordinates(struct text *text, int32_t *point, uint64_t length)
 {
     if (length > MOST_LENGTH)
-        malformed(text, "an output that is too long is answered");
+        malformed(text, "more coordinates than a point can have");
     for (uint64_t i = 0; i < length; i++) {
         if (i > 0)
             read_word(text, " ");

@@ -51,7 +51,7 @@ static uint64_t hold_text(struct text text, hold_case *hold)
     return cases;
 }
 
-uint64_t hold_lines(int words, char **word, hold_case *hold)
+void hold_lines(int words, char **word, hold_case *hold)
 {
     if (words != 3) {
         printf("%s FILE CASES\n", word[0]);
@@ -62,5 +62,5 @@ uint64_t hold_lines(int words, char **word, hold_case *hold)
         printf("the test itself: %lu cases were compared, %lu are wanted\n", cases, wanted);
         exit(1);
     }
-    return cases;
+    printf("agreed: %lu cases\n", cases);
 }

@@ -26,7 +26,7 @@ int main(void)
 {
     static struct gathering gathering;
     count_points();
-    count_patterns_and_shapes();
+    count_for_ranking();
     struct table table;
     table.size = read_file("pairing.bin", table.bytes, sizeof table.bytes);
     if (judge(table.bytes, table.size).faults) {

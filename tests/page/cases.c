@@ -2,8 +2,6 @@
 
 #include "page.h"
 
-enum { BITS_SIZE = 4 };
-
 const char *const call_words[CALLS] = {"take ", "read ", "coefficient ", "tally "};
 
 /* The lengths of the lists that refusals are: 7 names the row, and 12 of the tally the place. */
@@ -56,12 +54,10 @@ static void read_point(struct text *text, struct page_case *to)
 /* A value is there where a point is. */
 static void read_bits(struct text *text, struct page_case *to)
 {
-    uint8_t bytes[BITS_SIZE] = {0};
     const uint64_t word = to->expected.items[1];
     read_word(text, " ");
-    if (read_bytes(text, bytes, sizeof bytes) != (word == SOUND || word == MENDED ? sizeof bytes : 0))
+    if (read_coefficients(text, &to->bits, 1) != (word == SOUND || word == MENDED))
         malformed(text, "a value where there is none, or none where there is one");
-    to->bits = (uint32_t)(two_bytes(bytes) * 65536 + two_bytes(bytes + 2));
 }
 
 /* A mended place alone has one. */

@@ -7,16 +7,7 @@
 #include "../second/probe.h"
 #include "page.h"
 
-#include <stdio.h>
-
 static uint64_t refused[CALLS][MOST_REFUSAL + 1]; /* 0 for what is answered */
-
-/* What the second program answers. */
-static void hold_list(const char *name, struct list own, struct list wanted)
-{
-    for (uint64_t item = 0; item < ITEMS; item++)
-        own_figure(name, own.items[item], wanted.items[item]);
-}
 
 /* The second program makes its own copy of the page what the calls must make of theirs. */
 static void hold_take(const char *name, struct page_case *held)
@@ -64,23 +55,12 @@ static void hold(struct text *text, const char *name)
     refused[held.call][held.expected.items[0]]++;
 }
 
-/* Of each call how many cases are answered, and how many are refused with each number. */
-static void print_held(enum of_call call)
-{
-    printf("%s%lu answered", call_words[call], refused[call][0]);
-    for (int number = 1; number <= MOST_REFUSAL; number++)
-        if (refused[call][number] > 0)
-            printf(", %lu refused with %d", refused[call][number], number);
-    printf("\n");
-}
-
 int main(int words, char **word)
 {
     count_points();
-    count_patterns_and_shapes();
-    const uint64_t cases = hold_lines(words, word, hold);
+    count_for_ranking();
+    hold_lines(words, word, hold);
     for (enum of_call call = 0; call < CALLS; call++)
-        print_held(call);
-    printf("agreed: %lu cases\n", cases);
+        print_held(call_words[call], refused[call]);
     return 0;
 }

@@ -13,8 +13,8 @@
 /* N, or refused 1, 2, 3. */
 uint64_t probe_count(uint64_t length, uint64_t radius);
 
-/* The index of the point, or refused 1, 2, 3, 4, 5. */
-uint64_t probe_index(uint64_t length, uint64_t radius, const int32_t *point, uint64_t point_length);
+/* The index of the point, or refused 20, 1, 2, 3, 4, 5. */
+uint64_t probe_index(uint64_t selector, uint64_t length, uint64_t radius, const int32_t *point, uint64_t point_length);
 
 /* 0 for a good pairing table, else 7. */
 uint32_t probe_check(const uint8_t *table, uint64_t table_length);
@@ -34,8 +34,9 @@ uint64_t probe_quantize_value(const uint8_t *table, uint64_t table_length, uint6
    the list is 0. A refusal is the list of its number and what the rules name with it: the distance of 6, the row of 7,
    and in the tally the place of 12. In send 11 names the place and then the coordinate. */
 
-/* The list 0, and the point of the index in `out`; or refused 1, 2, 3, 4, 6, and `out` is as it was. */
-uint64_t probe_point(uint64_t length, uint64_t radius, uint64_t index, int32_t *out, uint64_t out_length, uint64_t which);
+/* The list 0, and the point of the index in `out`; or refused 20, 1, 2, 3, 4, 6, and `out` is as it was. */
+uint64_t probe_point(uint64_t selector, uint64_t length, uint64_t radius, uint64_t index, int32_t *out, uint64_t out_length,
+                     uint64_t which);
 
 /* The list 0, and the record is taken into the page; or refused 7, 4, 8, 9, 12, and the page is as it was. */
 uint64_t probe_take(const uint8_t *table, uint64_t table_length, uint8_t *page, uint64_t page_length, const uint8_t *record,

@@ -127,7 +127,7 @@ int main(int words, char **word)
     }
     to = word[1];
     count_points();
-    count_patterns_and_shapes();
+    count_for_ranking();
     chance_from(SEED);
     make_pages();
     make_wrong_runs();

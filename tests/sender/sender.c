@@ -21,7 +21,7 @@ int main(void)
 {
     static struct sent sent;
     count_points();
-    count_patterns_and_shapes();
+    count_for_ranking();
     sending.table.size = read_file("pairing.bin", sending.table.bytes, sizeof sending.table.bytes);
     answer(&sending, read_coefficients(), &sent);
     write_file(".", "records.bin", records_of(&sending, &sent));

@@ -66,7 +66,7 @@ static const struct {
 /* The table of the page of three places: the places 0 and 1 are of row 0, and place 2 is of row 1. */
 static const uint8_t three_places[] = {3, 2, 0, 2, 0, 0, 0, 0, 0, 0, 1, 0,  0, 2, 0, 0,
                                        2, 2, 0, 4, 0, 0, 0, 0, 0, 0, 0, 77, 0, 1, 0, 0};
-enum { PLACES = 3, ROWS = 256 };
+enum { PLACES = 3, ROWS = 256, BYTES = 256 };
 
 static void compare_case(const char *call, uint64_t number, uint64_t expected, uint64_t got)
 {
@@ -107,14 +107,31 @@ static void compare_rows_at(uint8_t place)
     }
 }
 
+/* Every selector of row 1 of that table, with a record of place 0, which is of row 0. */
+static void compare_selectors(void)
+{
+    uint8_t table[sizeof three_places];
+    for (uint64_t i = 0; i < sizeof table; i++)
+        table[i] = three_places[i];
+    for (int selector = 0; selector < BYTES; selector++) {
+        uint8_t page[PLACES * CELL_SIZE] = {0};
+        table[ROW_SIZE + AT_SELECTOR] = (uint8_t)selector;
+        compare_case("aldrynja_take, a selector", (uint64_t)selector, selector < 2 ? ALDRYNJA_TAKEN : ALDRYNJA_BAD_TABLE,
+                     aldrynja_take(table, sizeof table, page, sizeof page, first, sizeof first));
+        compare_case("the state of place 0, a selector", (uint64_t)selector, selector < 2, page[AT_STATE]);
+    }
+}
+
 void compare_cases(void)
 {
-    compare_case("the version of the header", 0, 2, ALDRYNJA_VERSION);
-    compare_case("aldrynja_version", 0, 2, aldrynja_version());
+    compare_case("the version of the header", 0, 3, ALDRYNJA_VERSION);
+    compare_case("aldrynja_version", 0, 3, aldrynja_version());
     for (uint64_t i = 0; i < ENTRIES(counts); i++)
         compare_case("aldrynja_count", i, counts[i].n, aldrynja_count(counts[i].length, counts[i].radius));
     compare_takes();
     for (uint8_t place = 0; place <= PLACES; place++)
         compare_rows_at(place);
-    printf("cases: 1 version, %lu counts, %lu takes, %d rows at each of %d places\n", ENTRIES(counts), ENTRIES(takes), ROWS, PLACES + 1);
+    compare_selectors();
+    printf("cases: 1 version, %lu counts, %lu takes, ", ENTRIES(counts), ENTRIES(takes));
+    printf("%d rows at each of %d places, %d selectors\n", ROWS, PLACES + 1, BYTES);
 }

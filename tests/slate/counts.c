@@ -28,7 +28,7 @@ static uint64_t counted, given;
 /* N, or 0 for a refusal, of which N itself is none: every length from 1 on has a point of each radius. */
 static uint64_t wanted(uint64_t length, uint64_t radius)
 {
-    const struct shell shell = {length, radius};
+    const struct shell shell = {length, radius, PRODUCT};
     if (length < 1 || length > MOST_LENGTH || radius > MOST_RADIUS)
         return 0;
     return is_usable(shell) ? points_of(shell) : 0;

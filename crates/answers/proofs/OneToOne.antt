@@ -24,7 +24,7 @@ cellOf : List ℕ → Refusal
 cellOf [] = refusal.BadCell
 cellOf (place ∷ vs) = refusal.BadCellAt place
 
--- the refusals by number, with the values vs; no refusal has the numbers 0 and 10
+-- the refusals by number, with the values vs; no refusal has the numbers 0, 10 and 14 to 19
 byNumber : List ℕ → List Refusal
 byNumber vs =
     refusal.LengthOutside
@@ -41,6 +41,13 @@ byNumber vs =
     ∷ coefficientOf vs
     ∷ cellOf vs
     ∷ refusal.NoSuchCoordinate
+    ∷ refusal.LengthOutside
+    ∷ refusal.LengthOutside
+    ∷ refusal.LengthOutside
+    ∷ refusal.LengthOutside
+    ∷ refusal.LengthOutside
+    ∷ refusal.LengthOutside
+    ∷ refusal.NoSuchEnumeration
     ∷ []
 
 pub refusalOf : List ℕ → Refusal
@@ -74,6 +81,7 @@ said (refusal.UnusableCoefficientAt place coordinate) = says-back 10 (place ∷ 
 said refusal.BadCell = says-back 11 [] refl refl (lit≤ tt)
 said (refusal.BadCellAt place) = says-back 11 (place ∷ []) refl refl (lit≤ tt)
 said refusal.NoSuchCoordinate = says-back 12 [] refl refl (lit≤ tt)
+said refusal.NoSuchEnumeration = says-back 19 [] refl refl (lit≤ tt)
 
 -- 7 is the refusal of a table
 pub of-7 : (r : Refusal) → numberOf r ≡ 7 → r ≡ refusal.BadTable (firstNamed r)

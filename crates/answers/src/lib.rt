@@ -32,6 +32,8 @@ pub enum Refusal {
     BadCellAt { place: usize },
     // 13: coordinate number l or more
     NoSuchCoordinate,
+    // 20: enumeration selector above 1
+    NoSuchEnumeration,
 }
 
 // A refusal in numbers: its own; those of the distance, row, coordinate or place that it names, at most two, with 0
@@ -62,6 +64,7 @@ pub fn in_numbers(refusal: Refusal) -> Numbers
         Refusal::BadCell => Numbers(12, 0, 0, 0),
         Refusal::BadCellAt { place } => Numbers(12, place, 0, 1),
         Refusal::NoSuchCoordinate => Numbers(13, 0, 0, 0),
+        Refusal::NoSuchEnumeration => Numbers(20, 0, 0, 0),
     }
 }
 

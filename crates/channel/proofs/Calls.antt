@@ -7,8 +7,7 @@ use Rattle.counts.specs.Counts.{N}
 use Rattle.tables.specs.Usable.{shellChecks}
 use Rattle.shell.specs.Shell.{countMeaning, countSays}
 use Rattle.shell.proofs.OneToOne.{count-one-to-one}
-use Rattle.enumeration.specs.Product.{productIndex}
-use Rattle.enumeration.specs.Reading.{productPoint}
+use Rattle.enumeration.specs.Enumerations.{selectedBy}
 use Rattle.points.specs.Calls.{indexChecks, indexMeaning, indexSays, pointChecks, pointMeaning, pointSays}
 use Rattle.points.proofs.OneToOne.{index-one-to-one, point-one-to-one}
 use Rattle.tables.specs.Table.{placesIn, tableChecks, checkSays, rowFor}
@@ -47,12 +46,13 @@ unfolding answers written
 demand-1 = record {
   count = λ l k. refusing (N l k ∷ []) (shellChecks l k (N l k)) (shellChecks l k (N l k)) refl refl (alike (shellChecks l k (N l k)));
   count-determined = λ l k. determined countMeaning (countSays l k) count-one-to-one;
-  index = λ l k x. refusing (productIndex x ∷ []) (indexChecks l k x) (indexChecks l k x) refl refl (alike (indexChecks l k x));
-  index-determined = λ l k x. determined indexMeaning (indexSays l k x) index-one-to-one;
-  point = λ l k n out.
-      refusing [] (pointChecks l k n (length out)) (pointConditions l k n (length out)) refl refl (point-alike l k n (length out));
-  point-unchanged = λ l k n out. unchanged [] (pointChecks l k n (length out)) (productPoint l k n) out;
-  point-determined = λ l k n out. determined pointMeaning (pointSays l k n out) point-one-to-one;
+  index = λ v l k x.
+      refusing (selectedBy v .index x ∷ []) (indexChecks v l k x) (indexChecks v l k x) refl refl (alike (indexChecks v l k x));
+  index-determined = λ v l k x. determined indexMeaning (indexSays v l k x) index-one-to-one;
+  point = λ v l k n out.
+      refusing [] (pointChecks v l k n (length out)) (pointConditions v l k n (length out)) refl refl (point-alike v l k n (length out));
+  point-unchanged = λ v l k n out. unchanged [] (pointChecks v l k n (length out)) (selectedBy v .point l k n) out;
+  point-determined = λ v l k n out. determined pointMeaning (pointSays v l k n out) point-one-to-one;
   check = λ t. refusing (placesIn t ∷ []) (tableChecks t) (withTable t []) refl refl (check-alike t);
   check-determined = λ t. determined checkMeaning (checkSays t) check-one-to-one;
   quantize = λ t p w out.

@@ -8,7 +8,7 @@ use lib.Ieee.{Float}
 use lib.ListN.{length}
 use Rattle.answers.specs.Checks.{numberSaid, Check, lengthCheck, pick, firstOf, eachFrom}
 use Rattle.answers.proofs.OneNumber.{OfNumber, each-of, one-number, one-number-last}
-use Rattle.counts.specs.Counts.{N}
+use Rattle.enumeration.specs.Enumerations.{selectedBy}
 use Rattle.points.specs.Calls.{pastEndCheck, pointChecks}
 use Rattle.tables.specs.Table.{placesIn, tableChecks, placeCheck, placeChecks, rowOf, rowFor, lengthFor}
 use Rattle.tables.proofs.Seven.{table-of-7}
@@ -54,8 +54,8 @@ by-table : {checks rest conditions : List Check} (t : List ℕ) → checks ≡ t
 by-table t is same = rw is (grouped 7 (tableChecks t) (table-of-7 t) same)
 
 -- ---- the calls
-pub point-alike : (l k n b : ℕ) → Alike (pointChecks l k n b) (pointConditions l k n b)
-point-alike l k n b = behind _ (behind _ (behind _ (behind _ (grouped-last 6 (pastEndCheck n (N l k) ∷ []) (refl, tt)))))
+pub point-alike : (v l k n b : ℕ) → Alike (pointChecks v l k n b) (pointConditions v l k n b)
+point-alike v l k n b = behind _ (behind _ (behind _ (behind _ (behind _ (grouped-last 6 (pastEndCheck n (selectedBy v .total l k) ∷ []) (refl, tt))))))
 
 module _ (t : List ℕ) where
   pub check-alike : Alike (tableChecks t) (withTable t [])

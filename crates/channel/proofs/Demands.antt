@@ -4,7 +4,7 @@ use Rattle.channel.specs.Demand3.{Demand3}
 use Rattle.channel.proofs.Answers.{answers, tallies}
 use Rattle.channel.proofs.AnyOrder.{any-order}
 use Rattle.channel.proofs.Never12.{never-12}
-use Rattle.channel.proofs.Numbering.{counts-sum, numbering, bit-of-coordinate, calls-undo}
+use Rattle.channel.proofs.Numbering.{counts-sum, enumerations, numbering, bit-of-coordinate, calls-undo}
 use Rattle.channel.proofs.Records.{quantize-writes}
 use Rattle.channel.proofs.Sent.{shown-as-sent, only-signs-change}
 use Rattle.channel.proofs.Shown.{read-only-sent, valued-only-sent}
@@ -14,6 +14,7 @@ use Rattle.channel.proofs.WholePage.{whole-page}
 pub demand-2 : Demand2
 demand-2 = record {
   counts = counts-sum;
+  enumerations = enumerations;
   numbering = numbering;
   bits = bit-of-coordinate;
   calls-undo = calls-undo;

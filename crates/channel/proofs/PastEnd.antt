@@ -11,7 +11,7 @@ use lib.ListN.{length, getD}
 use borrow.Author.Tests.{leb-true}
 use Rattle.answers.specs.Checks.{Check, Refuses, firstOf, Passes}
 use Rattle.answers.proofs.InOrder.{Numbered, says-refuses, passes-apart, passes-says, passes-leaves}
-use Rattle.counts.specs.Counts.{N}
+use Rattle.enumeration.specs.Enumerations.{selectedBy}
 use Rattle.counts.specs.Distance.{distance}
 use Rattle.tables.specs.Row.{lengthOf}
 use Rattle.tables.specs.Table.{rowOf, rowFor}
@@ -33,20 +33,22 @@ use Rattle.channel.specs.PastEnd.{mendedSays, TellsReceived, PastEnd}
 use Rattle.channel.proofs.Reading.{reader-told, read-numbered, coefficient-numbered}
 
 -- ---- refusal 6: of the checks of point only the last has this number
-refused-by : (l k n b d : ℕ) → Refuses (pointChecks l k n b) 6 (d ∷ []) → (pastEnd n (N l k) ≡ true) × (distance (N l k) n ∷ [] ≡ d ∷ [])
-refused-by l k n b d (inl h) = absurd (omega (arith, h .1))
-refused-by l k n b d (inr (_, inl h)) = absurd (omega (arith, h .1))
-refused-by l k n b d (inr (_, inr (_, inl h))) = absurd (omega (arith, h .1))
-refused-by l k n b d (inr (_, inr (_, inr (_, inl h)))) = absurd (omega (arith, h .1))
-refused-by l k n b d (inr (_, inr (_, inr (_, inr (_, inl h))))) = (h .0, h .2)
-refused-by l k n b d (inr (_, inr (_, inr (_, inr (_, inr h))))) = absurd (h .1)
+refused-by : (v l k n b d : ℕ) → Refuses (pointChecks v l k n b) 6 (d ∷ [])
+    → (pastEnd n (selectedBy v .total l k) ≡ true) × (distance (selectedBy v .total l k) n ∷ [] ≡ d ∷ [])
+refused-by v l k n b d (inl h) = absurd (omega (arith, h .1))
+refused-by v l k n b d (inr (_, inl h)) = absurd (omega (arith, h .1))
+refused-by v l k n b d (inr (_, inr (_, inl h))) = absurd (omega (arith, h .1))
+refused-by v l k n b d (inr (_, inr (_, inr (_, inl h)))) = absurd (omega (arith, h .1))
+refused-by v l k n b d (inr (_, inr (_, inr (_, inr (_, inl h))))) = absurd (omega (arith, h .1))
+refused-by v l k n b d (inr (_, inr (_, inr (_, inr (_, inr (_, inl h)))))) = (h .0, h .2)
+refused-by v l k n b d (inr (_, inr (_, inr (_, inr (_, inr (_, inr h)))))) = absurd (h .1)
 
-told-index : (l k n : ℕ) (out : List ℤ) (d : ℕ) → pointSays l k n out ≡ 6 ∷ d ∷ [] → n ≡ N l k + d
+told-index : (v l k n : ℕ) (out : List ℤ) (d : ℕ) → pointSays v l k n out ≡ 6 ∷ d ∷ [] → n ≡ selectedBy v .total l k + d
 unfolding distance
-told-index l k n out d says =
-    let by = refused-by l k n (length out) d (says-refuses [] (pointChecks l k n (length out)) 5 (d ∷ []) says) in
-    let is : n - N l k ≡ d = ap (λ (vs : List ℕ). getD vs 0 0) (by .1) in
-    omega (arith, leb-true (N l k) n (by .0), is)
+told-index v l k n out d says =
+    let by = refused-by v l k n (length out) d (says-refuses [] (pointChecks v l k n (length out)) 5 (d ∷ []) says) in
+    let is : n - selectedBy v .total l k ≡ d = ap (λ (vs : List ℕ). getD vs 0 0) (by .1) in
+    omega (arith, leb-true (selectedBy v .total l k) n (by .0), is)
 
 -- ---- a mended place
 -- only a mended place is told with a distance

@@ -16,7 +16,6 @@ use Rattle.coefficients.proofs.Radii.{least-miss, smaller-on-tie, some-total}
 use Rattle.quantizer.proofs.Written.{number-in, point-in, record-written}
 use Rattle.channel.specs.Demand2.{Quantizes, QuantizeWrites}
 use Rattle.channel.proofs.Accepted.{Accepted, accepts}
-use Rattle.channel.proofs.Numbering.{row-index}
 
 module _ (t : List ℕ) (p : ℕ) (w : List Float) (out : List ℕ) (a : Accepted t p w out) where
   row : GoodRow (rowFor t p)
@@ -27,7 +26,7 @@ module _ (t : List ℕ) (p : ℕ) (w : List Float) (out : List ℕ) (a : Accepte
 
   written : Quantizes t p w (recordFor t p w)
   written = record {
-    fields = rw (← row-index (rowFor t p) (pointFor (rowFor t p) w)) (record-written t p w (a .good) (a .inside) (a .long));
+    fields = record-written t p w (a .good) (a .inside) (a .long);
     its-row = row-holds t p (a .inside);
     nearest = λ i h. whole-nearest (getD w i nan);
     in-row = number-in t p w (a .good) (a .inside) (a .long);

@@ -5,6 +5,8 @@ use mathlib.Core.Path.{_≡_, refl, sym, ap, _∙_, subst}
 use mathlib.Core.List.{List, List·Memᴰ}
 use lib.Ieee.{Float}
 use lib.IntN.{ℤ}
+use Rattle.enumeration.specs.Enumeration.{Enumeration}
+use Rattle.enumeration.specs.Enumerations.{product}
 use Rattle.enumeration.specs.Point.{OnShell, nonzerosIn}
 use Rattle.enumeration.specs.Product.{productIndex}
 use Rattle.enumeration.specs.Reading.{productPoint}
@@ -12,7 +14,7 @@ use Rattle.enumeration.specs.Signs.{flipped}
 use Rattle.enumeration.proofs.Product.{index-below, point-of-index, point-on-shell, index-of-point}
 use Rattle.enumeration.proofs.Flips.{sign-theorem}
 use Rattle.tables.specs.Row.{enumerationOf}
-use Rattle.tables.specs.Table.{placesIn, rowOf, rowFor, lengthFor}
+use Rattle.tables.specs.Table.{placesIn, rowOf, rowFor, lengthFor, enumerationFor}
 use Rattle.tables.proofs.GoodRow.{row-lawful}
 use Rattle.records.specs.Record.{recordOf, Holds}
 use Rattle.coding.specs.Coded.{radiusNumberFor, radiusFor, pointFor}
@@ -23,7 +25,7 @@ use Rattle.rules.proofs.Claims.{is-claim}
 use Rattle.channel.specs.Demand3.{OnlyCame, SoundWith, ShownAsSent, withCodeword, OnlySignsChange}
 use Rattle.channel.proofs.Accepted.{Accepted, accepts}
 use Rattle.channel.proofs.Arrived.{arrived-sound}
-use Rattle.channel.proofs.Numbering.{row-index}
+use Rattle.channel.proofs.Numbering.{signs-lowest}
 
 -- a record of a place of the table claims it; where all that claim it are equal to it, that is what came
 all-of : (t : List ℕ) (p number codeword : ℕ) → p < placesIn t → Holds (recordOf p (rowOf t p) number codeword) p (rowOf t p) number codeword
@@ -75,13 +77,16 @@ module _ (t : List ℕ) (p : ℕ) (w : List Float) (lent : List ℕ) (a : Accept
   on-shell : OnShell l k point
   on-shell = point-in t p w (a .good) (a .inside) (a .long)
 
-  turned-sound : (codeword : ℕ) → productIndex point / 2 ^ nonzerosIn point ≡ codeword / 2 ^ nonzerosIn point → (xs : List (List ℕ)) → Came codeword xs
-      → SoundWith t (grown t xs) p (flipped (productIndex point) codeword point)
-  turned-sound codeword same xs came =
+  abbrev e : Enumeration
+  e = enumerationFor t p
+
+  turned-sound : e ≡ product → (codeword : ℕ) → e .index point / 2 ^ nonzerosIn point ≡ codeword / 2 ^ nonzerosIn point → (xs : List (List ℕ))
+      → Came codeword xs → SoundWith t (grown t xs) p (flipped (e .index point) codeword point)
+  turned-sound lowest codeword same xs came =
       let other = flipped (productIndex point) codeword point in
-      let is = turned l k point on-shell codeword same in
-      let index : enumerationOf (rowFor t p) .index other ≡ codeword = row-index (rowFor t p) other ∙ is .1 in
-      came-sound other (is .0) xs (rw index came)
+      let is = turned l k point on-shell codeword (rw lowest at same) in
+      let index : e .index other ≡ codeword = ap (λ (f : Enumeration). f .index other) lowest ∙ is .1 in
+      rw lowest (came-sound other (is .0) xs (rw index came))
 
 pub shown-as-sent : ShownAsSent
 shown-as-sent t p w r q sent xs among equal =
@@ -93,9 +98,9 @@ shown-as-sent t p w r q sent xs among equal =
 
 pub only-signs-change : OnlySignsChange
 unfolding recordOf
-only-signs-change t p w r q sent codeword same xs among equal =
+only-signs-change t p w r q sent lowest codeword same xs among equal =
     let a = accepts t p w (sent .lent) (sent .accepted) in
     let is : withCodeword r codeword ≡ withCodeword (recordFor t p w) codeword = ap (λ (u : List ℕ). withCodeword u codeword) (sym (sent .written) ∙ a .leaves) in
     rw (sent .point) at
-    (turned-sound t p w (sent .lent) a codeword (rw (sent .point) same) xs
+    (turned-sound t p w (sent .lent) a (signs-lowest (rowFor t p) lowest) codeword (rw (sent .point) same) xs
     (subst (λ (u : List ℕ). List·Memᴰ u xs) is among, λ x m f. equal x m f ∙ is))

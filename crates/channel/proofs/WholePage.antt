@@ -9,5 +9,6 @@ pub whole-page : WholePage
 whole-page t good w r q sent xs = record {
   any-order = λ ys steps. ap (λ (s : Received). s .page) (any-order t (empty t) xs ys steps);
   unchanged = λ p h among equal. shown-as-sent t p (w p) (r p) (q p) (sent p h) xs among equal;
-  signs-changed = λ p h codeword same among equal. only-signs-change t p (w p) (r p) (q p) (sent p h) codeword same xs among equal;
+  signs-changed = λ p h lowest codeword same among equal.
+      only-signs-change t p (w p) (r p) (q p) (sent p h) lowest codeword same xs among equal;
 }

@@ -12,11 +12,13 @@ use Rattle.counts.specs.Counts.{N, binomial, D, S, B, sumAfter, rangeSize, rang
 use Rattle.counts.specs.Distance.{distance}
 use Rattle.counts.specs.Width.{width, bitsFrom}
 use Rattle.enumeration.specs.Product.{patternIndex, shapeOffset, shapeIndex, signIndex, indexFrom, productIndex}
-use Rattle.enumeration.specs.Reading.{rangeFrom, rangeOf, patternOf, firstMagnitude, shapeLeft, shapeOf, signsOf, pointFrom, pointWithin, productPoint}
+use Rattle.enumeration.specs.Among.{firstAmong, leftAmong}
+use Rattle.enumeration.specs.Reading.{rangeFrom, rangeOf, patternOf, shapeOf, signsOf, pointFrom, pointWithin, productPoint}
 use Rattle.floats.specs.Exact.{over256}
 use Rattle.floats.specs.Nearest.{nearestWhole}
 use Rattle.floats.specs.Units.{ofPattern, unitsOf, unusableCoefficient, negative}
 use Rattle.tables.specs.Example.{wholeCase}
+use Rattle.enumeration.specs.Enumerations.{selectedBy}
 use Rattle.tables.specs.Row.{byteOf, enumerationOf, badRadius, badRadii, badRow}
 use Rattle.tables.specs.Table.{rowAt, placesBefore, rowsBefore}
 use Rattle.shares.specs.Best.{firstBest}
@@ -58,13 +60,13 @@ each-byte n h (suc i) = lit< tt
 
 -- both places of the table
 each-sent : PageSent wholeCase (λ p. vector) (λ p. of p 0 1 5) (λ p. sent)
-unfolding toBits lt N binomial D S B sumAfter rangeSize rangeStart patternIndex shapeOffset shapeIndex signIndex indexFrom productIndex nearestWhole ofPattern unitsOf unusableCoefficient negative byteOf enumerationOf badRadius badRadii badRow rowAt placesBefore rowsBefore firstBest largest give shared recordOf chosenRadiusNumber
+unfolding toBits lt N binomial D S B sumAfter rangeSize rangeStart patternIndex shapeOffset shapeIndex signIndex indexFrom productIndex nearestWhole ofPattern unitsOf unusableCoefficient negative byteOf selectedBy enumerationOf badRadius badRadii badRow rowAt placesBefore rowsBefore firstBest largest give shared recordOf chosenRadiusNumber
 each-sent zero h = record { lent = replicate 8 9; accepted = refl; written = refl; point = refl }
 each-sent (suc zero) h = record { lent = replicate 8 9; accepted = refl; written = refl; point = refl }
 each-sent (suc (suc p)) h = absurd (omega arith)
 
 pub witness : Witness
-unfolding onlyClaims claims toBits round lt N binomial D S B sumAfter rangeSize rangeStart distance width bitsFrom patternIndex shapeOffset shapeIndex signIndex indexFrom productIndex rangeFrom rangeOf patternOf firstMagnitude shapeLeft shapeOf signsOf pointFrom pointWithin productPoint over256 nearestWhole ofPattern unitsOf unusableCoefficient negative byteOf enumerationOf badRadius badRadii badRow rowAt placesBefore rowsBefore firstBest largest give shared recordOf chosenRadiusNumber stateAt recordAt setCell badCell takeCell arrive after judgeCodeword judgeRecord judge
+unfolding onlyClaims claims toBits round lt N binomial D S B sumAfter rangeSize rangeStart distance width bitsFrom patternIndex shapeOffset shapeIndex signIndex indexFrom productIndex rangeFrom rangeOf patternOf firstAmong leftAmong shapeOf signsOf pointFrom pointWithin productPoint over256 nearestWhole ofPattern unitsOf unusableCoefficient negative byteOf selectedBy enumerationOf badRadius badRadii badRow rowAt placesBefore rowsBefore firstBest largest give shared recordOf chosenRadiusNumber stateAt recordAt setCell badCell takeCell arrive after judgeCodeword judgeRecord judge
 witness = record {
   is-sent = record { lent = replicate 8 9; accepted = refl; written = refl; point = refl };
   is-read = record {
@@ -75,6 +77,7 @@ witness = record {
   };
   its-value = refl;
   low-bits = refl;
+  signs-are-lowest = refl;
   is-changed = refl;
   is-turned = refl;
   turned-read = record {
@@ -95,5 +98,5 @@ sound-here = shown-as-sent wholeCase 0 vector first sent (witness .is-sent) (arr
 pub turned-here : SoundWith wholeCase (grown wholeCase (arrivals other)) 0 turned
 turned-here =
     rw (witness .is-turned) at
-    (only-signs-change wholeCase 0 vector first sent (witness .is-sent) 7 (witness .low-bits) (arrivals other) (witness .turned-read .among)
+    (only-signs-change wholeCase 0 vector first sent (witness .is-sent) (witness .signs-are-lowest) 7 (witness .low-bits) (arrivals other) (witness .turned-read .among)
     (witness .turned-read .equal))

@@ -11,9 +11,10 @@ use lib.IntN.{ℤ}
 use lib.ListN.{length}
 use Rattle.answers.specs.Checks.{Check, numberSaid, anyOf, failsOf, lengthCheck, eachFrom, Refuses, Passes}
 use Rattle.counts.specs.Counts.{N}
+use Rattle.enumeration.specs.Enumerations.{selectedBy}
 use Rattle.tables.specs.Usable.{shellChecks}
 use Rattle.shell.specs.Shell.{countMeaning, countSays}
-use Rattle.points.specs.Calls.{indexChecks, indexMeaning, indexSays, pastEndCheck, pointChecks, pointMeaning, pointSays, pointLeaves}
+use Rattle.points.specs.Calls.{selectedChecks, indexChecks, indexMeaning, indexSays, pastEndCheck, pointChecks, pointMeaning, pointSays, pointLeaves}
 use Rattle.tables.specs.Table.{placesIn, tableChecks, checkSays, placeCheck, rowOf, rowFor, lengthFor}
 use Rattle.pairing.specs.Meanings.{checkMeaning}
 use Rattle.records.specs.Record.{recordCheck, placeIn}
@@ -39,8 +40,8 @@ abbrev pub numbersOf : List Check → List ℕ
 numbersOf cs = map (λ (c : Check). c .number) cs
 
 -- the conditions of point
-abbrev pub pointConditions : ℕ → ℕ → ℕ → ℕ → List Check
-pointConditions l k n b = shellChecks l k (N l k) ++ lengthCheck b l ∷ condition 6 (pastEndCheck n (N l k) ∷ []) ∷ []
+abbrev pub pointConditions : ℕ → ℕ → ℕ → ℕ → ℕ → List Check
+pointConditions v l k n b = selectedChecks v l k ++ lengthCheck b l ∷ condition 6 (pastEndCheck n (selectedBy v .total l k) ∷ []) ∷ []
 
 -- the conditions of a call whose checks begin with those of its table, 7, and what each call checks after them: 4
 -- is given for any buffer of a wrong length, 11 for any coefficient, and 12 for any cell
@@ -118,14 +119,14 @@ pub record Demand1 : Type 0 where
   -- Count: 1, 2, 3
   pub count : (l k : ℕ) → Refusing (1 ∷ 2 ∷ 3 ∷ []) (shellChecks l k (N l k)) (shellChecks l k (N l k)) (countSays l k)
   pub count-determined : (l k : ℕ) → Determined countMeaning (countSays l k)
-  -- Index: 1, 2, 3, 4, 5
-  pub index : (l k : ℕ) (x : List ℤ) → Refusing (1 ∷ 2 ∷ 3 ∷ 4 ∷ 5 ∷ []) (indexChecks l k x) (indexChecks l k x) (indexSays l k x)
-  pub index-determined : (l k : ℕ) (x : List ℤ) → Determined indexMeaning (indexSays l k x)
-  -- Point: 1, 2, 3, 4, 6
-  pub point : (l k n : ℕ) (out : List ℤ)
-      → Refusing (1 ∷ 2 ∷ 3 ∷ 4 ∷ 6 ∷ []) (pointConditions l k n (length out)) (pointChecks l k n (length out)) (pointSays l k n out)
-  pub point-unchanged : (l k n : ℕ) (out : List ℤ) → Unchanged (pointSays l k n out) (pointLeaves l k n out) out
-  pub point-determined : (l k n : ℕ) (out : List ℤ) → Determined pointMeaning (pointSays l k n out)
+  -- Index: 20, 1, 2, 3, 4, 5
+  pub index : (v l k : ℕ) (x : List ℤ) → Refusing (20 ∷ 1 ∷ 2 ∷ 3 ∷ 4 ∷ 5 ∷ []) (indexChecks v l k x) (indexChecks v l k x) (indexSays v l k x)
+  pub index-determined : (v l k : ℕ) (x : List ℤ) → Determined indexMeaning (indexSays v l k x)
+  -- Point: 20, 1, 2, 3, 4, 6
+  pub point : (v l k n : ℕ) (out : List ℤ)
+      → Refusing (20 ∷ 1 ∷ 2 ∷ 3 ∷ 4 ∷ 6 ∷ []) (pointConditions v l k n (length out)) (pointChecks v l k n (length out)) (pointSays v l k n out)
+  pub point-unchanged : (v l k n : ℕ) (out : List ℤ) → Unchanged (pointSays v l k n out) (pointLeaves v l k n out) out
+  pub point-determined : (v l k n : ℕ) (out : List ℤ) → Determined pointMeaning (pointSays v l k n out)
   -- the check of a table: 7
   pub check : (t : List ℕ) → Refusing (7 ∷ []) (withTable t []) (tableChecks t) (checkSays t)
   pub check-determined : (t : List ℕ) → Determined checkMeaning (checkSays t)

@@ -1,10 +1,9 @@
--- Demand 2 (docs/RULES.md, "Demands"), indices, records and answers. What is said of indices is said of the product
--- enumeration, by which both workshops number the points; what is said of a page, of the enumeration of each
--- place's row.
+-- Demand 2 (docs/RULES.md, "Demands"), indices, records and answers. What is said of indices is said of the enumeration
+-- of each selector v, and what is said of a page, of the enumeration of each place's row.
 use Prim.Native.Nat.{ℕ, suc, _*_, _^_, _≤_, _<_, _∣_}
 use mathlib.Core.Path.{_≡_}
 use mathlib.Core.List.{List, [], _∷_, _++_}
-use mathlib.Core.Bool.{true}
+use mathlib.Core.Bool.{true, false}
 use lib.Dec.{eqb}
 use lib.Ieee.{Float, nan}
 use lib.IntN.{ℤ, pos}
@@ -12,15 +11,17 @@ use lib.ListN.{length, getD}
 use Rattle.answers.specs.Checks.{numberSaid}
 use Rattle.counts.specs.Counts.{N, R, O, mostNonzero, sumAfter}
 use Rattle.enumeration.specs.Point.{OnShell, isNonzero, isNegative, nonzerosIn, sumOf}
+use Rattle.enumeration.specs.Enumerations.{product, magnitude, selectedBy, selectsNone}
+use Rattle.enumeration.specs.Magnitude.{OffsetsAgree}
 use Rattle.enumeration.specs.Product.{productIndex}
-use Rattle.enumeration.specs.Reading.{bit, productPoint}
+use Rattle.enumeration.specs.Reading.{bit}
 use Rattle.points.specs.Calls.{indexSays, pointSays, pointLeaves}
 use Rattle.floats.specs.Exact.{IsOver256}
 use Rattle.floats.specs.Nearest.{nearestWhole, IsNearest}
 use Rattle.floats.specs.Units.{unitsOf}
 use Rattle.tables.specs.Usable.{IsUsable}
 use Rattle.tables.specs.Row.{radiiOf, radiusAt}
-use Rattle.tables.specs.Table.{placesIn, Good, rowOf, rowFor, lengthFor, InRow}
+use Rattle.tables.specs.Table.{placesIn, Good, rowOf, rowFor, lengthFor, enumerationFor, InRow}
 use Rattle.records.specs.Record.{Holds}
 use Rattle.coding.specs.Coded.{radiusNumberFor, radiusFor, pointFor}
 use Rattle.quantizer.specs.Calls.{quantizeSays, quantizeLeaves}
@@ -32,36 +33,46 @@ use Rattle.rules.specs.Tallying.{countOf, tallySays}
 use Rattle.channel.specs.Demand3.{Bytes, scaled}
 
 -- ---- counts, indices and points
-pub record NumbersPoints (l k : ℕ) : Type 0 where
+pub record NumbersPoints (v l k : ℕ) : Type 0 where
+  -- there are N indices
+  pub many : selectedBy v .total l k ≡ N l k
   -- a point of the shell has an index below N, and the point of that index is it
-  pub there : (x : List ℤ) → OnShell l k x → (productIndex x < N l k) × (productPoint l k (productIndex x) ≡ x)
+  pub there : (x : List ℤ) → OnShell l k x → (selectedBy v .index x < N l k) × (selectedBy v .point l k (selectedBy v .index x) ≡ x)
   -- an index below N gives a point of the shell, and its index is that number
-  pub back : (n : ℕ) → n < N l k → OnShell l k (productPoint l k n) × (productIndex (productPoint l k n) ≡ n)
-  -- O(s) is a multiple of 2^(s+1): that is why ranges run downward
-  pub ranges : (s : ℕ) → 2 ^ suc s ∣ O s l k
+  pub back : (n : ℕ) → n < N l k → OnShell l k (selectedBy v .point l k n) × (selectedBy v .index (selectedBy v .point l k n) ≡ n)
+
+-- the selectors are those of the product enumeration and of the magnitude enumeration
+pub record Enumerations : Type 0 where
+  pub selector-0 : selectedBy 0 ≡ product
+  pub selector-1 : selectedBy 1 ≡ magnitude
+  -- O(s) is a multiple of 2^(s+1): that is why the ranges of the product enumeration run downward
+  pub ranges : (l k s : ℕ) → 2 ^ suc s ∣ O s l k
+  -- the offsets of the magnitude enumeration are the sums that the paper begins with
+  pub offsets : OffsetsAgree
 
 -- N(l,k) is the sum of R(s), s = 1 to m, for radii above 0; radius 0 stands apart
 abbrev pub CountsSum : Type 0
 CountsSum = (l k : ℕ) → N l (suc k) ≡ sumAfter (λ s. R s l (suc k)) 0 (mostNonzero l (suc k))
 
--- bit j of an index is that of the nonzero coordinate which has exactly j nonzero coordinates after it, 1 for
+-- bit j of a product index is that of the nonzero coordinate which has exactly j nonzero coordinates after it, 1 for
 -- negative
 abbrev pub BitOfCoordinate : Type 0
 BitOfCoordinate = (before : List ℤ) (c : ℤ) (after : List ℤ) → isNonzero c ≡ true
     → eqb (bit (nonzerosIn after) (productIndex (before ++ c ∷ after))) 1 ≡ isNegative c
 
 -- so the calls index and point undo each other in every usable shell, with any lent buffer of the right length
-pub record CallsUndo (l k : ℕ) : Type 0 where
+pub record CallsUndo (v l k : ℕ) : Type 0 where
   pub there : (x out : List ℤ) → OnShell l k x → length out ≡ l
-      → (indexSays l k x ≡ 0 ∷ productIndex x ∷ []) × (pointSays l k (productIndex x) out ≡ 0 ∷ []) × (pointLeaves l k (productIndex x) out ≡ x)
+      → (indexSays v l k x ≡ 0 ∷ selectedBy v .index x ∷ []) × (pointSays v l k (selectedBy v .index x) out ≡ 0 ∷ [])
+      × (pointLeaves v l k (selectedBy v .index x) out ≡ x)
   pub back : (n : ℕ) (out : List ℤ) → n < N l k → length out ≡ l
-      → (pointSays l k n out ≡ 0 ∷ []) × (indexSays l k (pointLeaves l k n out) ≡ 0 ∷ n ∷ [])
+      → (pointSays v l k n out ≡ 0 ∷ []) × (indexSays v l k (pointLeaves v l k n out) ≡ 0 ∷ n ∷ [])
 
 -- ---- records
 -- What quantize writes for w at place p, if it accepts them: the record r.
 pub record Quantizes (t : List ℕ) (p : ℕ) (w : List Float) (r : List ℕ) : Type 0 where
-  -- place, row, radius number and the index of the point; and the row is the place's
-  pub fields : Holds r p (rowOf t p) (radiusNumberFor (rowFor t p) w) (productIndex (pointFor (rowFor t p) w))
+  -- place, row, radius number and the index of the point by the row's own enumeration; and the row is the place's
+  pub fields : Holds r p (rowOf t p) (radiusNumberFor (rowFor t p) w) (enumerationFor t p .index (pointFor (rowFor t p) w))
   pub its-row : InRow t p (rowOf t p)
   -- the whole number of a coefficient is the n with the least |256 X - n 2^149|, the even one of two
   pub nearest : (i : ℕ) → i < length w → IsNearest (256 * unitsOf (getD w i nan)) (2 ^ 149) (nearestWhole (getD w i nan))
@@ -100,9 +111,10 @@ pub record Tallies (t pg : List ℕ) : Type 0 where
 -- ---- all of demand 2
 pub record Demand2 : Type 0 where
   pub counts : CountsSum
-  pub numbering : (l k : ℕ) → NumbersPoints l k
+  pub enumerations : Enumerations
+  pub numbering : (v l k : ℕ) → NumbersPoints v l k
   pub bits : BitOfCoordinate
-  pub calls-undo : (l k : ℕ) → IsUsable l k (N l k) → CallsUndo l k
+  pub calls-undo : (v l k : ℕ) → selectsNone v ≡ false → IsUsable l k (N l k) → CallsUndo v l k
   pub quantize-writes : QuantizeWrites
   pub answers : (t : List ℕ) → Good t → (pg : List ℕ) (p : ℕ) → p < placesIn t → Answers t pg p
   pub tallies : (t pg : List ℕ) → numberSaid (tallySays t pg) ≡ 0 → Tallies t pg

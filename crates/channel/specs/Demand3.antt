@@ -12,11 +12,10 @@ use lib.IntN.{ℤ, pos, _*ℤ_}
 use lib.ListN.{length, getD, take, replicate}
 use Rattle.answers.specs.Checks.{numberSaid}
 use Rattle.enumeration.specs.Point.{nonzerosIn}
-use Rattle.enumeration.specs.Product.{productIndex}
-use Rattle.enumeration.specs.Signs.{flipped}
+use Rattle.enumeration.specs.Signs.{flipped, signsLowest}
 use Rattle.floats.specs.Exact.{over256, IsOver256}
-use Rattle.tables.specs.Row.{stepOf}
-use Rattle.tables.specs.Table.{placesIn, Good, rowFor, lengthFor}
+use Rattle.tables.specs.Row.{stepOf, selectorOf}
+use Rattle.tables.specs.Table.{placesIn, Good, rowFor, lengthFor, enumerationFor}
 use Rattle.octets.specs.Octets.{highFirst}
 use Rattle.coding.specs.Coded.{pointFor}
 use Rattle.quantizer.specs.Calls.{quantizeSays, quantizeLeaves}
@@ -115,16 +114,17 @@ abbrev pub ShownAsSent : Type 0
 ShownAsSent = (t : List ℕ) (p : ℕ) (w : List Float) (r : List ℕ) (q : List ℤ) → Sent t p w r q → (xs : List (List ℕ)) → List·Memᴰ r xs
     → AllEqual t xs p r → SoundWith t (grown t xs) p q
 
--- d. The record with a codeword that differs only in the low s bits, s being the number of nonzero coordinates of
--- q, in any set of them: arrived in the same way, it is sound with q with exactly the coordinates of the differing
--- bits negated.
+-- d. In a row whose enumeration has the signs lowest in the index, the record with a codeword that differs only in the
+-- low s bits, s being the number of nonzero coordinates of q, in any set of them: arrived in the same way, it is sound
+-- with q with exactly the coordinates of the differing bits negated.
 abbrev pub withCodeword : List ℕ → ℕ → List ℕ
 withCodeword r codeword = take 4 r ++ highFirst 4 codeword
 
 abbrev pub OnlySignsChange : Type 0
-OnlySignsChange = (t : List ℕ) (p : ℕ) (w : List Float) (r : List ℕ) (q : List ℤ) → Sent t p w r q
-    → (codeword : ℕ) → productIndex q / 2 ^ nonzerosIn q ≡ codeword / 2 ^ nonzerosIn q → (xs : List (List ℕ)) → List·Memᴰ (withCodeword r codeword) xs
-    → AllEqual t xs p (withCodeword r codeword) → SoundWith t (grown t xs) p (flipped (productIndex q) codeword q)
+OnlySignsChange = (t : List ℕ) (p : ℕ) (w : List Float) (r : List ℕ) (q : List ℤ) → Sent t p w r q → signsLowest (selectorOf (rowFor t p)) ≡ true
+    → (codeword : ℕ) → enumerationFor t p .index q / 2 ^ nonzerosIn q ≡ codeword / 2 ^ nonzerosIn q
+    → (xs : List (List ℕ)) → List·Memᴰ (withCodeword r codeword) xs → AllEqual t xs p (withCodeword r codeword)
+    → SoundWith t (grown t xs) p (flipped (enumerationFor t p .index q) codeword q)
 
 -- ---- e. Conversely, by either reader: a place shows a point only if something claimed it and all that claimed it
 -- were equal; and it is the point of that record. So a reading never stands over its neighbour's character because
@@ -153,11 +153,12 @@ pub record PageShown (t : List ℕ) (r : ℕ → List ℕ) (q : ℕ → List ℤ
   -- every place whose own record came unchanged, and that no differing record claims, gives the sent point
   pub unchanged : (p : ℕ) → p < placesIn t → List·Memᴰ (r p) xs → ((x : List ℕ) → List·Memᴰ x xs → claims t x p ≡ true → x ≡ r p)
       → SoundWith t (grown t xs) p (q p)
-  -- every place whose record came in one form only, changed only in sign bits, gives the point with exactly those
-  -- coordinates negated
-  pub signs-changed : (p : ℕ) → p < placesIn t → (codeword : ℕ) → productIndex (q p) / 2 ^ nonzerosIn (q p) ≡ codeword / 2 ^ nonzerosIn (q p)
+  -- every place of such a row whose record came in one form only, changed only in sign bits, gives the point with
+  -- exactly those coordinates negated
+  pub signs-changed : (p : ℕ) → p < placesIn t → signsLowest (selectorOf (rowFor t p)) ≡ true
+      → (codeword : ℕ) → enumerationFor t p .index (q p) / 2 ^ nonzerosIn (q p) ≡ codeword / 2 ^ nonzerosIn (q p)
       → List·Memᴰ (withCodeword (r p) codeword) xs → ((x : List ℕ) → List·Memᴰ x xs → claims t x p ≡ true → x ≡ withCodeword (r p) codeword)
-      → SoundWith t (grown t xs) p (flipped (productIndex (q p)) codeword (q p))
+      → SoundWith t (grown t xs) p (flipped (enumerationFor t p .index (q p)) codeword (q p))
 
 abbrev pub WholePage : Type 0
 WholePage = (t : List ℕ) → Good t → (w : ℕ → List Float) (r : ℕ → List ℕ) (q : ℕ → List ℤ) → PageSent t w r q → (xs : List (List ℕ)) → PageShown t r q xs

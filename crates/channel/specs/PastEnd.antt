@@ -1,14 +1,14 @@
--- Past the end (docs/RULES.md, "The product index", "Reading a place", "Refusal numbers" and "Listing program"): how
+-- Past the end (docs/RULES.md, "Enumerations", "Reading a place", "Refusal numbers" and "Listing program"): how
 -- far an index is past the end is told by refusal 6, and at a mended place by both readers and the line. t is any
 -- table, pg any page, p any place, d a distance.
 use Prim.Native.Nat.{ℕ, _+_}
 use mathlib.Core.List.{List, [], _∷_}
 use mathlib.Core.Path.{_≡_}
 use lib.IntN.{ℤ}
-use Rattle.counts.specs.Counts.{N}
+use Rattle.enumeration.specs.Enumerations.{selectedBy}
 use Rattle.enumeration.specs.Point.{radiusOf}
-use Rattle.tables.specs.Row.{enumerationOf, shellTotal}
-use Rattle.tables.specs.Table.{rowFor}
+use Rattle.tables.specs.Row.{shellTotal}
+use Rattle.tables.specs.Table.{rowFor, enumerationFor}
 use Rattle.records.specs.Record.{codewordIn}
 use Rattle.layout.specs.Layout.{cellAt}
 use Rattle.points.specs.Calls.{pointSays}
@@ -28,11 +28,11 @@ totalShown t p q = shellTotal (rowFor t p) (radiusOf q)
 -- The distance d and the point q are shown: with N and b those of the shell of q, d is below 2^b - N, the index of q
 -- plus 2^(b-1) is N plus d, and that is the codeword in the cell.
 abbrev pub TellsReceived : List ℕ → List ℕ → ℕ → ℕ → List ℤ → Type 0
-TellsReceived t pg p d q = Mends (totalShown t p q) (codewordIn (cellAt pg p .bytes)) (enumerationOf (rowFor t p) .index q) d
+TellsReceived t pg p d q = Mends (totalShown t p q) (codewordIn (cellAt pg p .bytes)) (enumerationFor t p .index q) d
 
 pub record PastEnd : Type 0 where
   -- refusal 6 tells the index that was asked for
-  pub refused : (l k n : ℕ) (out : List ℤ) (d : ℕ) → pointSays l k n out ≡ 6 ∷ d ∷ [] → n ≡ N l k + d
+  pub refused : (v l k n : ℕ) (out : List ℤ) (d : ℕ) → pointSays v l k n out ≡ 6 ∷ d ∷ [] → n ≡ selectedBy v .total l k + d
   -- at a mended place what either reader says, with the point that read writes, tells the codeword
   pub read : (t pg : List ℕ) (p : ℕ) (out : List ℤ) (d : ℕ) → readSays t pg p out ≡ mendedSays d → TellsReceived t pg p d (readLeaves t pg p out)
   pub coefficient : (t pg : List ℕ) (p i d : ℕ) → coefficientSays t pg p i ≡ mendedSays d → TellsReceived t pg p d (pointAt t pg p)

@@ -5,13 +5,15 @@
 use Prim.Native.Nat.{ℕ, _/_, _^_, _<_}
 use mathlib.Core.Path.{_≡_}
 use mathlib.Core.List.{List, [], _∷_, map, List·Memᴰ}
+use mathlib.Core.Bool.{true}
 use lib.Ieee.{binary32, toBits}
 use lib.IntN.{ℤ, pos, negsuc}
 use lib.ListN.{take}
 use Rattle.enumeration.specs.Point.{nonzerosIn}
-use Rattle.enumeration.specs.Product.{productIndex}
-use Rattle.enumeration.specs.Signs.{flipped}
+use Rattle.enumeration.specs.Signs.{flipped, signsLowest}
 use Rattle.tables.specs.Example.{wholeCase}
+use Rattle.tables.specs.Row.{selectorOf}
+use Rattle.tables.specs.Table.{rowFor, enumerationFor}
 use Rattle.coefficients.specs.Example.{vector}
 use Rattle.rules.specs.Example.{of, first, second, other, page, zeros}
 use Rattle.rules.specs.Taking.{grown, AllEqual}
@@ -43,9 +45,10 @@ pub record Witness : Type 0 where
   pub is-read : Read first sent
   pub its-value : map (toBits binary32) (coefficientCarries wholeCase (grown wholeCase (arrivals first)) 0 2) ≡ 3212836864 ∷ []
   -- d: with bit 1 of its codeword changed, which makes 7 of 5, (-1, 0, -1) is read
-  pub low-bits : productIndex sent / 2 ^ nonzerosIn sent ≡ 7 / 2 ^ nonzerosIn sent
+  pub low-bits : enumerationFor wholeCase 0 .index sent / 2 ^ nonzerosIn sent ≡ 7 / 2 ^ nonzerosIn sent
+  pub signs-are-lowest : signsLowest (selectorOf (rowFor wholeCase 0)) ≡ true
   pub is-changed : withCodeword first 7 ≡ other
-  pub is-turned : flipped (productIndex sent) 7 sent ≡ turned
+  pub is-turned : flipped (enumerationFor wholeCase 0 .index sent) 7 sent ≡ turned
   pub turned-read : Read other turned
   -- e: a sound and a mended place both meet the premise
   pub shows-sound : ShowsPoint (readSays wholeCase page 0 zeros)

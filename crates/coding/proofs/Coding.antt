@@ -19,7 +19,7 @@ use Rattle.shares.proofs.Mapped.{read-map}
 use Rattle.shares.proofs.Sharing.{shared-length, shared-up-to}
 use Rattle.numbering.specs.Numbered.{IsOfRow, indexIn, Usable}
 use Rattle.numbering.specs.declared.inner.Numbering.{Numbering}
-use Rattle.numbering.proofs.OfRow.{usable-of}
+use Rattle.numbering.proofs.OfRow.{enumeration-of, usable-of}
 use Rattle.coefficients.specs.Coefficients.{AllUsable}
 use Rattle.coefficients.specs.Points.{magnitudesOf, totalOf, signedBy, pointOf}
 use Rattle.coefficients.specs.Radius.{chosenRadiusNumber}
@@ -87,7 +87,7 @@ module _ (xs : List Float) {row : List ℕ} {total number : ℕ} {m : Numbering}
   radius-is = of-row .is-radius ∙ ap (radiusAt row) number-is
 
   pub codeword-is : indexIn m (pointOf (m .radius .0) xs) ≡ codewordFor row xs
-  codeword-is = same-index xs (of-row .is-enumeration) radius-is
+  codeword-is = same-index xs (enumeration-of of-row) radius-is
 
   -- at radius 0 the point is zero, and its index 0
   pub zero-coded : m .radius .0 ≡ 0 → 0 ≡ codewordFor row xs

@@ -6,4 +6,5 @@ pub mod Volume
 pub mod Ranges
 pub mod Widths
 pub mod Growth
+pub mod FirstCoordinate
 pub mod Example

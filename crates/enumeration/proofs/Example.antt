@@ -3,10 +3,11 @@ use mathlib.Core.Path.{refl}
 use Rattle.counts.specs.Counts.{binomial, D, S, B, sumAfter, rangeSize, rangeStart}
 use Rattle.enumeration.specs.Example.{Example}
 use Rattle.enumeration.specs.Product.{patternIndex, shapeOffset, shapeIndex, signIndex, indexFrom, productIndex}
-use Rattle.enumeration.specs.Reading.{rangeFrom, rangeOf, patternOf, firstMagnitude, shapeLeft, shapeOf, signsOf, pointFrom, pointWithin, productPoint}
+use Rattle.enumeration.specs.Among.{firstAmong, leftAmong}
+use Rattle.enumeration.specs.Reading.{rangeFrom, rangeOf, patternOf, shapeOf, signsOf, pointFrom, pointWithin, productPoint}
 
 pub example : Example
-unfolding binomial D S B sumAfter rangeSize rangeStart patternIndex shapeOffset shapeIndex signIndex indexFrom productIndex rangeFrom rangeOf patternOf firstMagnitude shapeLeft shapeOf signsOf pointFrom pointWithin productPoint
+unfolding binomial D S B sumAfter rangeSize rangeStart patternIndex shapeOffset shapeIndex signIndex indexFrom productIndex rangeFrom rangeOf patternOf firstAmong leftAmong shapeOf signsOf pointFrom pointWithin productPoint
 example =
     record {
       patterns-read = refl;

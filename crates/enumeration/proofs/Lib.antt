@@ -1,4 +1,6 @@
 pub mod Patterns
+pub mod Among
+pub mod Passing
 pub mod Shapes
 pub mod SignBits
 pub mod RangeOf
@@ -9,5 +11,9 @@ pub mod Flips
 pub mod Bits
 pub mod Steps
 pub mod Example
+pub mod MagnitudeExample
 pub mod Tails
 pub mod Laws
+pub mod Values
+pub mod Magnitude
+pub mod Selected

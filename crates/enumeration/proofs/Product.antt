@@ -10,6 +10,7 @@ use lib.IntN.{ℤ}
 use lib.ListN.{length}
 use lib.Pow.{pow-pos}
 use Rattle.counts.specs.Counts.{N, binomial, D, S, B, R, O, mostNonzero, sumAfter, rangeSize, rangeStart}
+use Rattle.counts.proofs.Growth.{one-point}
 use Rattle.counts.proofs.Ranges.{end-bound}
 use Rattle.enumeration.specs.Point.{OnShell, radiusOf, patternIn, nonzerosIn, shapeIn, signsIn}
 use Rattle.enumeration.specs.Enumeration.{Lawful, Full}
@@ -125,10 +126,6 @@ index-of-point l k n h =
     let y = in-parts s l k within (r .0) in
     let same = position-back s l k within (r .0) in
     rw (y .of-nonzeros, y .of-length, y .of-radius, y .of-pattern, y .of-shape, y .of-sign) (omega (arith, r .1))
-
-one-point : (l : ℕ) → N l 0 ≡ 1
-unfolding N
-one-point l = refl
 
 -- so it is lawful, and every index below N names a point
 pub product-lawful : Lawful product

@@ -1,25 +1,29 @@
 -- Shapes and their indices, for all numbers of magnitudes and sums:
 --     second-shape                 a shape of two magnitudes
---     first-1, first-more          how the first magnitude is found, and what number of a shape is left
---     first-read, first-back       its offset and what is left make up the number; and it is found again from them
+--     first-read                   the first magnitude's offset and the number of the shape that is left make up the
+--                                  number of a shape
+--     all-passed                   each shape begins with some magnitude
 --     shape-at-least               no more magnitudes than their sum
 --     last-read, second-read       the last magnitude is all that is left; the one before it is one more than the
 --                                  number of its shape
 --     shape-read                   the n-th shape has s magnitudes, all above 0, that sum to k, and index n
 --     shape-below, shape-back      a shape's index is below S(s,k), and that shape is read back from it
 use Prim.Native.Nat.{ℕ, zero, suc, _+_, _-_, _≤_, _<_}
-use mathlib.Core.Path.{_≡_, refl, ap, _∙_}
+use mathlib.Core.Path.{_≡_, refl, sym, ap, _∙_}
 use mathlib.Core.List.{List, [], _∷_}
 use native.Mathlib.Omega.{arith}
 use native.Mathlib.Decide.{decLt, le-ind}
-use native.Mathlib.Nat.{le-refl, zero-add, suc-add}
+use native.Mathlib.Nat.{le-refl, suc-add}
 use lib.ListN.{length}
-use borrow.Author.Tests.{lt-ltb, le-ltb}
 use Rattle.counts.specs.Counts.{binomial, S}
 use Rattle.counts.proofs.Pascal.{S-none, S-addition, S-small}
+use Rattle.counts.proofs.Upper.{upper-part, upper-offset}
+use Rattle.enumeration.specs.Among.{passedAmong}
 use Rattle.enumeration.specs.Point.{sumOf}
 use Rattle.enumeration.specs.Product.{shapeOffset, shapeIndex}
 use Rattle.enumeration.specs.Reading.{firstMagnitude, shapeLeft, shapeOf}
+use Rattle.enumeration.proofs.Among.{IsFirst}
+use Rattle.enumeration.proofs.Among as among
 
 -- the second of the two shapes that sum to 3 with two magnitudes
 second-shape : shapeIndex (2 ∷ 1 ∷ []) ≡ 1
@@ -41,55 +45,22 @@ pub S-grows : (s j k : ℕ) → j ≤ k → S (suc s) j ≤ S (suc s) k
 S-grows s j k h =
     le-ind (λ (m : ℕ). S (suc s) j ≤ S (suc s) m) (le-refl (S (suc s) j)) (λ m q e. omega (arith, e, S-addition s m)) k h
 
-pub first-1 : (s k n : ℕ) → n < S s k → (firstMagnitude s (suc k) n ≡ 1) × (shapeLeft s (suc k) n ≡ n)
-unfolding firstMagnitude shapeLeft
-first-1 s k n h = (rw (lt-ltb n (S s k) h, firstMagnitude), rw (lt-ltb n (S s k) h, shapeLeft))
-
-pub first-more : (s k n : ℕ) → S s k ≤ n
-    → (firstMagnitude s (suc k) n ≡ suc (firstMagnitude s k (n - S s k))) × (shapeLeft s (suc k) n ≡ shapeLeft s k (n - S s k))
-unfolding firstMagnitude shapeLeft
-first-more s k n h = (rw (le-ltb n (S s k) h, firstMagnitude), rw (le-ltb n (S s k) h, shapeLeft))
-
--- i is the first magnitude of the n-th shape of s+1 magnitudes that sum to k, and `left` the number of the shape
--- that is left
-pub record IsFirst (s k n i left : ℕ) : Type 0 where
-  pub from-1 : 0 < i
-  pub to-sum : i ≤ k
-  pub left-below : left < S s (k - i)
-  pub offset-and-left : shapeOffset (suc s) k i + left ≡ n
-
-is-1 : (s k n : ℕ) → n < S s k → IsFirst s (suc k) n 1 n
+-- the offset of a first magnitude passes the shapes of the smaller ones (eq. 21)
+offset-passes : (s k i : ℕ) → 0 < i → i ≤ k → shapeOffset (suc s) k i ≡ passedAmong (S s) k (i - 1)
 unfolding shapeOffset
-is-1 s k n h =
-    let rest : suc k - 1 ≡ k = omega arith in
-    let same : suc k - 1 + 1 ≡ suc k = omega arith in
-    record { from-1 = omega arith; to-sum = omega arith; left-below = rw rest h; offset-and-left = rw same (omega arith) }
+offset-passes s k i p h =
+    let same : k - (i - 1) ≡ k - i + 1 = omega arith in
+    rw (← same) (sym (upper-offset s k (i - 1) (omega arith)))
 
-is-more : (s k n i left : ℕ) → S s k ≤ n → IsFirst s k (n - S s k) i left → IsFirst s (suc k) n (suc i) left
-unfolding shapeOffset
-is-more s k n i left h r =
-    let rest : suc k - suc i ≡ k - i = omega arith in
-    let grown : S (suc s) (k - i + 1) ≤ S (suc s) k = S-grows s (k - i + 1) k (omega (arith, r .from-1, r .to-sum)) in
-    record {
-      from-1 = omega arith;
-      to-sum = omega (arith, r .to-sum);
-      left-below = rw rest (r .left-below);
-      offset-and-left = rw rest (omega (arith, r .offset-and-left, S-addition s k));
-    }
+-- and all first magnitudes together pass all shapes (eq. 20)
+pub all-passed : (s k : ℕ) → S (suc s) k ≡ passedAmong (S s) k k
+all-passed s k =
+    let none : k - k ≡ 0 = omega arith in
+    let last : S (suc s) (k - k) ≡ 0 = ap (S (suc s)) none ∙ S-small (suc s) 0 (omega arith) in
+    omega (arith, upper-part s k k (omega arith))
 
-pub first-read : (s k n : ℕ) → n < S (suc s) k → IsFirst s k n (firstMagnitude s k n) (shapeLeft s k n)
-first-read s zero n h = absurd (omega (arith, S-small (suc s) 0 (omega arith)))
-first-read s (suc k) n h = go (decLt n (S s k)) (first-read s k (n - S s k))
-  where
-    go : Dec (n < S s k)
-        → (n - S s k < S (suc s) k → IsFirst s k (n - S s k) (firstMagnitude s k (n - S s k)) (shapeLeft s k (n - S s k)))
-        → IsFirst s (suc k) n (firstMagnitude s (suc k) n) (shapeLeft s (suc k) n)
-    go (yes t) rest = let f = first-1 s k n t in rw (f .0, f .1) (is-1 s k n t)
-    go (no t) rest =
-        let past : S s k ≤ n = omega arith in
-        let f = first-more s k n past in
-        rw (f .0, f .1)
-        (is-more s k n (firstMagnitude s k (n - S s k)) (shapeLeft s k (n - S s k)) past (rest (omega (arith, S-addition s k))))
+pub first-read : (s k n : ℕ) → n < S (suc s) k → IsFirst (S s) k n (firstMagnitude s k n) (shapeLeft s k n)
+first-read s k n h = among.first-read (S s) k n (rw (← all-passed s k) h)
 
 -- there is no shape of more magnitudes than they sum to
 pub shape-at-least : (s k n : ℕ) → n < S s k → s ≤ k
@@ -103,7 +74,7 @@ shape-at-least s k n h = go (decLt k s)
 pub last-read : (k n : ℕ) → n < S 1 k → (firstMagnitude 0 k n ≡ k) × (shapeLeft 0 k n ≡ 0)
 last-read k n h = go (k - firstMagnitude 0 k n) refl (first-read 0 k n h)
   where
-    go : (j : ℕ) → k - firstMagnitude 0 k n ≡ j → IsFirst 0 k n (firstMagnitude 0 k n) (shapeLeft 0 k n)
+    go : (j : ℕ) → k - firstMagnitude 0 k n ≡ j → IsFirst (S 0) k n (firstMagnitude 0 k n) (shapeLeft 0 k n)
         → (firstMagnitude 0 k n ≡ k) × (shapeLeft 0 k n ≡ 0)
     go zero e f =
         let below : shapeLeft 0 k n < S 0 0 = rw e at (f .left-below) in
@@ -116,30 +87,13 @@ last-read k n h = go (k - firstMagnitude 0 k n) refl (first-read 0 k n h)
 pub second-read : (k n : ℕ) → n < S 2 k → (firstMagnitude 1 k n ≡ suc n) × (shapeLeft 1 k n ≡ 0)
 second-read zero n h = absurd (omega (arith, S-small 2 0 (omega arith)))
 second-read (suc zero) n h = absurd (omega (arith, S-small 2 1 (omega arith)))
-second-read (suc (suc k)) zero h = first-1 1 (suc k) 0 (omega (arith, S-one k))
+second-read (suc (suc k)) zero h = among.first-1 (S 1) (suc k) 0 (omega (arith, S-one k))
 second-read (suc (suc k)) (suc n) h =
     let one = S-one k in
-    let f = first-more 1 (suc k) (suc n) (omega arith) in
+    let f = among.first-more (S 1) (suc k) (suc n) (omega arith) in
     let left : suc n - S 1 (suc k) ≡ n = omega arith in
     let rest = second-read (suc k) n (omega (arith, S-addition 1 (suc k))) in
     (f .0 ∙ ap (λ (m : ℕ). suc (firstMagnitude 1 (suc k) m)) left ∙ ap suc (rest .0), f .1 ∙ ap (shapeLeft 1 (suc k)) left ∙ rest .1)
-
--- the first magnitude is i+1 and j is what is left to sum to
-pub first-back : (s j i n : ℕ) → n < S s j
-    → (firstMagnitude s (suc (i + j)) (S (suc s) (suc (i + j)) - S (suc s) (suc j) + n) ≡ suc i)
-    × (shapeLeft s (suc (i + j)) (S (suc s) (suc (i + j)) - S (suc s) (suc j) + n) ≡ n)
-first-back s j zero n h =
-    let none : S (suc s) (suc j) - S (suc s) (suc j) + n ≡ n = omega arith in
-    rw (zero-add j, none) (first-1 s j n h)
-first-back s j (suc i) n h =
-    let k = suc (i + j) in
-    let grown : S (suc s) (suc j) ≤ S (suc s) k = S-grows s (suc j) k (omega arith) in
-    let all = S (suc s) (suc k) - S (suc s) (suc j) + n in
-    let rest : all - S s k ≡ S (suc s) k - S (suc s) (suc j) + n = omega (arith, S-addition s k) in
-    let f = first-more s k all (omega (arith, S-addition s k)) in
-    let b = first-back s j i n h in
-    rw (suc-add i j)
-    (f .0 ∙ ap (λ (m : ℕ). suc (firstMagnitude s k m)) rest ∙ ap suc (b .0), f .1 ∙ ap (shapeLeft s k) rest ∙ b .1)
 
 -- all magnitudes are above 0
 abbrev pub Positive : List ℕ → Type 0
@@ -158,7 +112,7 @@ unfolding shapeIndex
 none-left zero n h = record { of-length = refl; of-sum = refl; positive = tt; of-index = omega (arith, S-start) }
 none-left (suc k) n h = absurd (omega (arith, S-none k))
 
-with-first : (s k n i left : ℕ) (is : List ℕ) → IsFirst s k n i left → IsShape s (k - i) left is → IsShape (suc s) k n (i ∷ is)
+with-first : (s k n i left : ℕ) (is : List ℕ) → IsFirst (S s) k n i left → IsShape s (k - i) left is → IsShape (suc s) k n (i ∷ is)
 unfolding shapeIndex
 with-first s k n i left is f r =
     let whole : i + sumOf is ≡ k = omega (arith, r .of-sum, f .to-sum) in
@@ -166,7 +120,7 @@ with-first s k n i left is f r =
       of-length = ap suc (r .of-length);
       of-sum = whole;
       positive = (f .from-1, r .positive);
-      of-index = rw (whole, r .of-length, r .of-index) (f .offset-and-left);
+      of-index = rw (whole, r .of-length, r .of-index, offset-passes s k i (f .from-1) (f .to-sum)) (f .passed-and-left);
     }
 
 pub shape-read : (s k n : ℕ) → n < S s k → IsShape s k n (shapeOf s k n)
@@ -197,5 +151,8 @@ shape-back (suc i ∷ is) p =
     let j = sumOf is in
     let rest : suc i + j - suc i + 1 ≡ suc j = omega arith in
     let left : suc (i + j) - suc i ≡ j = omega arith in
-    let b = first-back s j i (shapeIndex is) (shape-below is (p .1)) in
-    rw (rest, suc-add i j, b .0, b .1, left) (ap (λ (js : List ℕ). suc i ∷ js) (shape-back is (p .1)))
+    let less : suc (i + j) - i ≡ suc j = omega arith in
+    let passed : S (suc s) (suc (i + j)) - S (suc s) (suc j) ≡ passedAmong (S s) (suc (i + j)) i =
+    rw less at (sym (upper-offset s (suc (i + j)) i (omega arith))) in
+    let b = among.first-back (S s) j i (shapeIndex is) (shape-below is (p .1)) in
+    rw (rest, suc-add i j, passed, b .0, b .1, left) (ap (λ (js : List ℕ). suc i ∷ js) (shape-back is (p .1)))

@@ -1,7 +1,10 @@
 pub mod Point
 pub mod Enumeration
+pub mod Among
 pub mod Product
 pub mod Reading
+pub mod Magnitude
 pub mod Enumerations
 pub mod Signs
 pub mod Example
+pub mod MagnitudeExample

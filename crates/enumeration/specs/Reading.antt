@@ -7,6 +7,7 @@ use mathlib.Core.Bool.{Bool, true, false, _&&_}
 use lib.Dec.{leb, ltb, eqb}
 use lib.IntN.{ℤ, pos}
 use Rattle.counts.specs.Counts.{D, S, B, R, O, mostNonzero}
+use Rattle.enumeration.specs.Among.{firstAmong, leftAmong}
 use Rattle.enumeration.specs.Point.{signed}
 
 -- the range for s holds n: the R numbers from O(s) on
@@ -28,15 +29,12 @@ patternOf s zero n = []
 patternOf s (suc l) n = elim (ltb n (D s l)) [ true ↦ false ∷ patternOf s l n | false ↦ true ∷ patternOf (s - 1) l (n - D s l) ]
 
 -- Of the n-th shape of s+1 magnitudes that sum to k: its first magnitude, and the number of the shape that is left.
--- The S(s,k-1) shapes that begin with 1 come first; the others are those that sum to k-1, with a first magnitude
--- larger by 1.
-unfoldable pub firstMagnitude : ℕ → ℕ → ℕ → ℕ
-firstMagnitude s zero n = 0
-firstMagnitude s (suc k) n = elim (ltb n (S s k)) [ true ↦ 1 | false ↦ suc (firstMagnitude s k (n - S s k)) ]
+-- S(s,k-i) shapes begin with i.
+abbrev pub firstMagnitude : ℕ → ℕ → ℕ → ℕ
+firstMagnitude s k n = firstAmong (S s) k n
 
-unfoldable pub shapeLeft : ℕ → ℕ → ℕ → ℕ
-shapeLeft s zero n = n
-shapeLeft s (suc k) n = elim (ltb n (S s k)) [ true ↦ n | false ↦ shapeLeft s k (n - S s k) ]
+abbrev pub shapeLeft : ℕ → ℕ → ℕ → ℕ
+shapeLeft s k n = leftAmong (S s) k n
 
 -- the n-th shape of s magnitudes that sum to k
 unfoldable pub shapeOf : ℕ → ℕ → ℕ → List ℕ

@@ -1,7 +1,8 @@
--- What changed sign bits do to a point: docs/RULES.md, "The product index", "Sign index".
+-- What changed sign bits do to a point: docs/RULES.md, "The product index", "Sign index"; and where an index has sign
+-- bits: "Enumerations".
 use Prim.Native.Nat.{ℕ}
 use mathlib.Core.List.{List, [], _∷_}
-use mathlib.Core.Bool.{cond}
+use mathlib.Core.Bool.{Bool, cond}
 use lib.Dec.{eqb}
 use lib.IntN.{ℤ, negℤ}
 use Rattle.enumeration.specs.Point.{nonzerosIn}
@@ -12,3 +13,7 @@ use Rattle.enumeration.specs.Reading.{bit}
 abbrev pub flipped : ℕ → ℕ → List ℤ → List ℤ
 flipped n n′ [] = []
 flipped n n′ (c ∷ x) = cond (eqb (bit (nonzerosIn x) n) (bit (nonzerosIn x) n′)) c (negℤ c) ∷ flipped n n′ x
+
+-- the selectors of the enumerations whose indices have one sign bit for each nonzero coordinate, lowest in the index
+abbrev pub signsLowest : ℕ → Bool
+signsLowest v = eqb v 0

@@ -1,24 +1,41 @@
--- What a numbering of the points of a shell is, and what is asked of it. m is the shell as the code hands it over,
--- n an index.
-use Prim.Native.Nat.{ℕ, _≤_, _<_}
+-- What a numbering of the points of a shell is, and what is asked of it. m is the shell and its enumeration as the
+-- code hands them over, n an index.
+use Prim.Native.Nat.{ℕ, zero, suc, _≤_, _<_}
 use mathlib.Core.Path.{_≡_}
 use mathlib.Core.List.{List}
 use mathlib.Core.Bool.{Bool, true}
 use lib.IntN.{ℤ}
 use Rattle.counts.specs.Counts.{O}
 use Rattle.enumeration.specs.Enumeration.{Enumeration}
-use Rattle.enumeration.specs.Enumerations.{product}
+use Rattle.enumeration.specs.Enumerations.{product, magnitude}
 use Rattle.enumeration.specs.Reading.{rangeOf}
-use Rattle.tables.specs.Row.{lengthOf, enumerationOf}
+use Rattle.tables.specs.Row.{lengthOf, selectorOf}
 use Rattle.tables.specs.Usable.{IsUsable}
+use Rattle.numbering.specs.declared.inner.Selected.{Selected}
+use Rattle.numbering.specs.declared.inner.Selected.the-variants as selected
 use Rattle.numbering.specs.declared.inner.Numbering.{Numbering}
 use Rattle.numbering.specs.declared.inner.Found.{Found}
 use Rattle.numbering.specs.declared.inner.Sought.{Sought}
 use Rattle.numbering.specs.declared.inner.Sought.the-variants as sought
 
--- the enumeration that numbers them: the product enumeration, in every shell
+-- which enumeration a selector selects, in code, and the enumeration that the code's name stands for
+abbrev pub selectedOf : ℕ → Selected
+selectedOf zero = selected.Product
+selectedOf (suc v) = selected.Magnitude
+
+abbrev pub enumerationNamed : Selected → Enumeration
+enumerationNamed selected.Product = product
+enumerationNamed selected.Magnitude = magnitude
+
+-- the enumeration that numbers the points
 unfoldable pub enumerationIn : Numbering → Enumeration
-enumerationIn m = product
+enumerationIn m = enumerationNamed (m .selected)
+
+abbrev pub ByProduct : Numbering → Type 0
+ByProduct m = m .selected ≡ selected.Product
+
+abbrev pub ByMagnitude : Numbering → Type 0
+ByMagnitude m = m .selected ≡ selected.Magnitude
 
 abbrev pub totalIn : Numbering → ℕ
 totalIn m = enumerationIn m .total (m .length .0) (m .radius .0)
@@ -36,7 +53,7 @@ namesIn m n = enumerationIn m .names (m .length .0) (m .radius .0) n
 pub record IsOfRow (m : Numbering) (row : List ℕ) (k : ℕ) : Type 0 where
   pub is-length : m .length .0 ≡ lengthOf row
   pub is-radius : m .radius .0 ≡ k
-  pub is-enumeration : enumerationIn m ≡ enumerationOf row
+  pub is-selected : m .selected ≡ selectedOf (selectorOf row)
 
 -- the shell is usable
 abbrev pub Usable : Numbering → Type 0
@@ -48,10 +65,17 @@ pub record Names (m : Numbering) (n : ℕ) : Type 0 where
   pub below : n < totalIn m
   pub named : namesIn m n ≡ true
 
--- where n stands: in the range for s, which starts there
+-- nothing to tell of where an index stands
+abbrev pub nowhere : Found
+nowhere = record { s = 0; start = 0 }
+
+-- where n stands: by the product enumeration in the range for s, which starts there
+abbrev pub foundBy : Selected → ℕ → ℕ → ℕ → Found
+foundBy selected.Product l k n = record { s = rangeOf l k n; start = O (rangeOf l k n) l k }
+foundBy selected.Magnitude l k n = nowhere
+
 pub record IsFound (m : Numbering) (n : ℕ) (found : Found) : Type 0 where
-  pub range-s : found .s ≡ rangeOf (m .length .0) (m .radius .0) n
-  pub range-start : found .start ≡ O (found .s) (m .length .0) (m .radius .0)
+  pub stands : found ≡ foundBy (m .selected) (m .length .0) (m .radius .0) n
 
 -- what a search for n is to answer
 abbrev pub Seeks : Numbering → ℕ → Sought → Type 0

@@ -1,25 +1,44 @@
 // A shell's numbering, by value, and what can be asked of it.
 use counts::Length;
 use counts::Radius;
+use enumeration::Selector;
 use product::inner::range::Range;
 use product::inner::range::holds;
 use product::inner::range::locate;
-use product::inner::read;
-use product::inner::weigh::index_of;
 ghost use mathlib.Core.Path.{_≡_};
 ghost use Prim.Native.Nat.{_<_};
 ghost use lib.ListN as listed;
 ghost use Rattle.enumeration.specs.Point.{OnShell};
 ghost use Rattle.tables.specs.Row.{rowLength, radiusAt};
-ghost use Rattle.numbering.specs.Numbered.{IsOfRow, totalIn, indexIn, pointIn, Usable, Names, IsFound, Seeks};
+ghost use Rattle.numbering.specs.Numbered as numbered;
+ghost use Rattle.numbering.specs.Numbered.{selectedOf, ByProduct, ByMagnitude, IsOfRow, totalIn, indexIn, pointIn, Usable, Names, IsFound, Seeks};
 
-// The shell whose points are numbered.
+// The enumerations.
+pub enum Selected {
+    Product,
+    Magnitude,
+}
+
+// The enumeration that a selector selects. Only here is a number made one, for the table and for the calls that are
+// given a selector.
+pub fn select(selector: Selector) -> Selected
+    ensures { λ r. ⌜ r ≡ selectedOf (selector .0) ⌝ }
+{
+    if selector.0 == 0 {
+        return Selected::Product;
+    }
+    Selected::Magnitude
+}
+
+// The shell whose points are numbered, and by which enumeration.
 pub struct Numbering {
+    pub selected: Selected,
     pub length: Length,
     pub radius: Radius,
 }
 
-// Where an index stands among the others, as a search found it.
+// Where an index stands among the others, as a search found it: of the product enumeration its range. The magnitude
+// enumeration has nothing to tell.
 pub struct Found {
     pub s: usize,
     pub start: u64,
@@ -46,6 +65,7 @@ pub fn of_radius(row: &[u8], radius: Radius) -> Numbering
     ensures { λ m. ⌜ IsOfRow m (now (row .entry)) (radius .0) ⌝ }
 {
     Numbering {
+        selected: select(rows::inner::row::selector(row)),
         length: rows::inner::row::length(row),
         radius,
     }
@@ -59,7 +79,7 @@ pub fn of_row(row: &[u8], number: usize) -> Numbering
     of_radius(row, rows::inner::row::radius(row, number))
 }
 
-// How many indices there are.
+// How many indices there are: N, by either enumeration.
 pub fn total(numbering: Numbering) -> u64
     requires { ⌜ Usable numbering ⌝ }
     ensures { λ r. ⌜ r ≡ totalIn numbering ⌝ }
@@ -72,19 +92,25 @@ pub fn index(numbering: Numbering, x: &[i32]) -> u64
     requires { ⌜ Usable numbering × OnShell (numbering .length .0) (numbering .radius .0) (now x) ⌝ }
     ensures { λ r. ⌜ r ≡ indexIn numbering (now (x .entry)) ⌝ }
 {
-    index_of(numbering.length, numbering.radius, x)
+    let length = numbering.length;
+    let radius = numbering.radius;
+    let selected = numbering.selected;
+    match selected {
+        Selected::Product => product::inner::weigh::index_of(length, radius, x),
+        Selected::Magnitude => magnitude::inner::weigh::index_of(radius, x),
+    }
 }
 
-// What stands for an index where there is none.
+// What stands for an index where there is none, or nothing to tell.
 pub fn nowhere() -> Found
-    ensures { λ f. ⌜ (f .s ≡ 0) × (f .start ≡ 0) ⌝ }
+    ensures { λ f. ⌜ f ≡ numbered.nowhere ⌝ }
 {
     Found { s: 0, start: 0 }
 }
 
-// Where an index stands.
-pub fn find(numbering: Numbering, n: u64) -> Found
-    requires { ⌜ Usable numbering ⌝ }
+// Where an index stands by the product enumeration.
+fn find_range(numbering: Numbering, n: u64) -> Found
+    requires { ⌜ Usable numbering × ByProduct numbering ⌝ }
     ensures { λ f. ⌜ IsFound numbering n f ⌝ }
 {
     let range = locate(numbering.length, numbering.radius, n);
@@ -99,9 +125,21 @@ pub fn seek(numbering: Numbering, n: u64) -> Sought
     requires { ⌜ Usable numbering ⌝ }
     ensures { λ r. ⌜ Seeks numbering n r ⌝ }
 {
+    let selected = numbering.selected;
+    match selected {
+        Selected::Product => seek_range(numbering, n),
+        Selected::Magnitude => seek_below(numbering, n),
+    }
+}
+
+// By the product enumeration: what was searched to is the end, if no range holds the index.
+fn seek_range(numbering: Numbering, n: u64) -> Sought
+    requires { ⌜ Usable numbering × ByProduct numbering ⌝ }
+    ensures { λ r. ⌜ Seeks numbering n r ⌝ }
+{
     let length = numbering.length;
     let radius = numbering.radius;
-    let found = find(numbering, n);
+    let found = find_range(numbering, n);
     if holds(range_of(found), length, radius, n) {
         return Sought::At(found);
     }
@@ -110,10 +148,54 @@ pub fn seek(numbering: Numbering, n: u64) -> Sought
     }
 }
 
+// By the magnitude enumeration: there is nothing to search.
+fn seek_below(numbering: Numbering, n: u64) -> Sought
+    requires { ⌜ Usable numbering × ByMagnitude numbering ⌝ }
+    ensures { λ r. ⌜ Seeks numbering n r ⌝ }
+{
+    let total = total(numbering);
+    if n < total {
+        return Sought::At(nowhere());
+    }
+    Sought::Past { total }
+}
+
 // The point of an index that names one, by where it stands.
 pub fn write_point(numbering: Numbering, n: u64, found: Found, out: &mut [i32])
     requires { ⌜ Names numbering n × IsFound numbering n found × (listed.length (now out) ≡ numbering .length .0) ⌝ }
     ensures { λ _. ⌜ now (out .exit) ≡ pointIn numbering n ⌝ }
 {
-    read::write_point(numbering.length, numbering.radius, n, range_of(found), out);
+    let length = numbering.length;
+    let radius = numbering.radius;
+    let selected = numbering.selected;
+    match selected {
+        Selected::Product => product::inner::read::write_point(
+            length,
+            radius,
+            n,
+            range_of(found),
+            out,
+        ),
+        Selected::Magnitude => magnitude::inner::read::write_point(radius, n, out),
+    }
+}
+
+// The same, where the index is still to be sought.
+pub fn write_sought(numbering: Numbering, n: u64, out: &mut [i32])
+    requires { ⌜ Names numbering n × (listed.length (now out) ≡ numbering .length .0) ⌝ }
+    ensures { λ _. ⌜ now (out .exit) ≡ pointIn numbering n ⌝ }
+{
+    let length = numbering.length;
+    let radius = numbering.radius;
+    let selected = numbering.selected;
+    match selected {
+        Selected::Product => product::inner::read::write_point(
+            length,
+            radius,
+            n,
+            locate(length, radius, n),
+            out,
+        ),
+        Selected::Magnitude => magnitude::inner::read::write_point(radius, n, out),
+    }
 }

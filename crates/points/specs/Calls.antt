@@ -1,5 +1,6 @@
--- What the calls index and point say, and what point leaves in the lent buffer: docs/RULES.md, "The product index",
--- "Refusal numbers" and "Order of checks". l is the length and k the radius, any whole numbers; n is an index.
+-- What the calls index and point say, and what point leaves in the lent buffer: docs/RULES.md, "Enumerations",
+-- "Refusal numbers" and "Order of checks". v is the selector, l the length and k the radius, any whole numbers; n is an
+-- index.
 use Prim.Native.Nat.{ℕ}
 use mathlib.Core.List.{List, [], _∷_, _++_}
 use mathlib.Core.Bool.{Bool, not}
@@ -8,12 +9,11 @@ use lib.IntN.{ℤ}
 use lib.ListN.{length}
 use Rattle.answers.specs.Refusals.{meaning}
 use Rattle.answers.specs.Checks.{Check, lengthCheck, firstOf, leaves}
-use Rattle.counts.specs.Counts.{N}
 use Rattle.counts.specs.Distance.{distance}
 use Rattle.tables.specs.Usable.{shellChecks}
 use Rattle.enumeration.specs.Point.{radiusOf}
-use Rattle.enumeration.specs.Product.{productIndex}
-use Rattle.enumeration.specs.Reading.{productPoint}
+use Rattle.enumeration.specs.Enumeration.{Enumeration}
+use Rattle.enumeration.specs.Enumerations.{selectedBy, selectsNone}
 use Rattle.points.specs.declared.Indexed.{Indexed}
 use Rattle.points.specs.declared.Indexed.the-variants as indexed
 use Rattle.points.specs.declared.Pointed.{Pointed}
@@ -30,19 +30,27 @@ pastEnd n total = leb total n
 abbrev pub pastEndCheck : ℕ → ℕ → Check
 pastEndCheck n total = record { number = 6; values = distance total n ∷ []; fails = pastEnd n total }
 
--- Index: 1, 2, 3, 4, 5; first the last two
+-- 20: enumeration selector above 1
+abbrev pub selectorCheck : ℕ → Check
+selectorCheck v = record { number = 20; values = []; fails = selectsNone v }
+
+-- what index and point check first: 20, 1, 2, 3
+abbrev pub selectedChecks : ℕ → ℕ → ℕ → List Check
+selectedChecks v l k = selectorCheck v ∷ shellChecks l k (selectedBy v .total l k)
+
+-- Index: 20, 1, 2, 3, 4, 5; first the last two
 abbrev pub indexRest : ℕ → ℕ → List ℤ → List Check
 indexRest l k x = lengthCheck (length x) l ∷ record { number = 5; values = []; fails = wrongSum x k } ∷ []
 
-abbrev pub indexChecks : ℕ → ℕ → List ℤ → List Check
-indexChecks l k x = shellChecks l k (N l k) ++ indexRest l k x
+abbrev pub indexChecks : ℕ → ℕ → ℕ → List ℤ → List Check
+indexChecks v l k x = selectedChecks v l k ++ indexRest l k x
 
--- Point: 1, 2, 3, 4, 6, in the same way; b is the length of the lent buffer
-abbrev pub pointRest : ℕ → ℕ → ℕ → ℕ → List Check
-pointRest l k n b = lengthCheck b l ∷ pastEndCheck n (N l k) ∷ []
+-- Point: 20, 1, 2, 3, 4, 6, in the same way, by any enumeration; b is the length of the lent buffer
+abbrev pub pointRest : Enumeration → ℕ → ℕ → ℕ → ℕ → List Check
+pointRest e l k n b = lengthCheck b l ∷ pastEndCheck n (e .total l k) ∷ []
 
-abbrev pub pointChecks : ℕ → ℕ → ℕ → ℕ → List Check
-pointChecks l k n b = shellChecks l k (N l k) ++ pointRest l k n b
+abbrev pub pointChecks : ℕ → ℕ → ℕ → ℕ → ℕ → List Check
+pointChecks v l k n b = selectedChecks v l k ++ pointRest (selectedBy v) l k n b
 
 -- what the call index answers: the index, or a refusal
 abbrev pub indexMeaning : Indexed → List ℕ
@@ -50,8 +58,8 @@ indexMeaning (indexed.At n) = 0 ∷ n ∷ []
 indexMeaning (indexed.Refused refusal) = meaning refusal
 
 -- what it is to say
-abbrev pub indexSays : ℕ → ℕ → List ℤ → List ℕ
-indexSays l k x = firstOf (indexChecks l k x) (0 ∷ productIndex x ∷ [])
+abbrev pub indexSays : ℕ → ℕ → ℕ → List ℤ → List ℕ
+indexSays v l k x = firstOf (indexChecks v l k x) (0 ∷ selectedBy v .index x ∷ [])
 
 -- what the call point answers: that the point is written, or a refusal
 abbrev pub pointMeaning : Pointed → List ℕ
@@ -59,8 +67,8 @@ pointMeaning pointed.Written = 0 ∷ []
 pointMeaning (pointed.Refused refusal) = meaning refusal
 
 -- what it is to say, and what it leaves in a buffer that held `held`
-abbrev pub pointSays : ℕ → ℕ → ℕ → List ℤ → List ℕ
-pointSays l k n held = firstOf (pointChecks l k n (length held)) (0 ∷ [])
+abbrev pub pointSays : ℕ → ℕ → ℕ → ℕ → List ℤ → List ℕ
+pointSays v l k n held = firstOf (pointChecks v l k n (length held)) (0 ∷ [])
 
-abbrev pub pointLeaves : ℕ → ℕ → ℕ → List ℤ → List ℤ
-pointLeaves l k n held = leaves (pointChecks l k n (length held)) (productPoint l k n) held
+abbrev pub pointLeaves : ℕ → ℕ → ℕ → ℕ → List ℤ → List ℤ
+pointLeaves v l k n held = leaves (pointChecks v l k n (length held)) (selectedBy v .point l k n) held

@@ -1,23 +1,24 @@
-// The calls index and point (docs/RULES.md, "The product index"). How the points of a shell are numbered stands in
+// The calls index and point (docs/RULES.md, "Enumerations"). How the points of a shell are numbered stands in
 // `numbering`.
 use answers::Refusal;
 use answers::Verdict;
 use coordinates::inner::magnitude_sum;
 use counts::Length;
 use counts::Radius;
+use enumeration::Selector;
 use numbering::inner::Numbering;
 use numbering::inner::Sought;
 use numbering::inner::seek;
+use numbering::inner::select;
 use numbering::inner::write_point;
 use shell::check_shell;
 ghost use mathlib.Core.Path.{_≡_};
 ghost use mathlib.Core.List.{[], _∷_};
 ghost use lib.ListN as listed;
 ghost use Rattle.answers.specs.Checks.{firstOf, leaves};
-ghost use Rattle.enumeration.specs.Product.{productIndex};
-ghost use Rattle.enumeration.specs.Reading.{productPoint};
-ghost use Rattle.numbering.specs.Numbered.{Usable};
-ghost use Rattle.points.specs.Calls.{indexMeaning, indexRest, indexSays, pointMeaning, pointRest, pointSays, pointLeaves};
+ghost use Rattle.answers.specs.Refusals.{verdictMeaning};
+ghost use Rattle.numbering.specs.Numbered.{enumerationIn, indexIn, pointIn, Usable};
+ghost use Rattle.points.specs.Calls.{selectedChecks, indexMeaning, indexRest, indexSays, pointMeaning, pointRest, pointSays, pointLeaves};
 
 pub enum Indexed {
     At(u64),
@@ -29,32 +30,58 @@ pub enum Pointed {
     Refused(Refusal),
 }
 
-// The call index: the index of a point of the shell.
-pub fn index(length: Length, radius: Radius, x: &[i32]) -> Indexed
-    ensures { λ r. ⌜ indexMeaning r ≡ indexSays (length .0) (radius .0) (now (x .entry)) ⌝ }
+// The call index: the index of a point of the shell, by the enumeration that is selected.
+pub fn index(selector: Selector, length: Length, radius: Radius, x: &[i32]) -> Indexed
+    ensures { λ r. ⌜ indexMeaning r ≡ indexSays (selector .0) (length .0) (radius .0) (now (x .entry)) ⌝ }
 {
-    match check_shell(length, radius) {
-        Verdict::Passed => index_usable(Numbering { length, radius }, x),
+    match check_selected(selector, length, radius) {
+        Verdict::Passed => index_usable(
+            Numbering {
+                selected: select(selector),
+                length,
+                radius,
+            },
+            x,
+        ),
         Verdict::Refused(refusal) => Indexed::Refused(refusal),
     }
 }
 
-// The call point: the point of an index of the shell, written into the lent buffer once every check has passed.
-pub fn point(length: Length, radius: Radius, n: u64, out: &mut [i32]) -> Pointed
-    ensures { λ r. ⌜ (pointMeaning r ≡ pointSays (length .0) (radius .0) n (now (out .entry)))
-        × (now (out .exit) ≡ pointLeaves (length .0) (radius .0) n (now (out .entry))) ⌝ }
+// The call point: the point of an index of the shell, by the enumeration that is selected, written into the lent buffer
+// once every check has passed.
+pub fn point(selector: Selector, length: Length, radius: Radius, n: u64, out: &mut [i32]) -> Pointed
+    ensures { λ r. ⌜ (pointMeaning r ≡ pointSays (selector .0) (length .0) (radius .0) n (now (out .entry)))
+        × (now (out .exit) ≡ pointLeaves (selector .0) (length .0) (radius .0) n (now (out .entry))) ⌝ }
 {
-    match check_shell(length, radius) {
-        Verdict::Passed => point_usable(Numbering { length, radius }, n, out),
+    match check_selected(selector, length, radius) {
+        Verdict::Passed => point_usable(
+            Numbering {
+                selected: select(selector),
+                length,
+                radius,
+            },
+            n,
+            out,
+        ),
         Verdict::Refused(refusal) => Pointed::Refused(refusal),
     }
+}
+
+// The checks 20, 1, 2 and 3, which both calls begin with.
+fn check_selected(selector: Selector, length: Length, radius: Radius) -> Verdict
+    ensures { λ r. ⌜ verdictMeaning r ≡ firstOf (selectedChecks (selector .0) (length .0) (radius .0)) (0 ∷ []) ⌝ }
+{
+    if 1 < selector.0 {
+        return Verdict::Refused(Refusal::NoSuchEnumeration);
+    }
+    check_shell(length, radius)
 }
 
 // What index does in a usable shell: the checks 4 and 5, and the work.
 fn index_usable(numbering: Numbering, x: &[i32]) -> Indexed
     requires { ⌜ Usable numbering ⌝ }
     ensures { λ r. ⌜ indexMeaning r
-        ≡ firstOf (indexRest (numbering .length .0) (numbering .radius .0) (now (x .entry))) (0 ∷ productIndex (now (x .entry)) ∷ []) ⌝ }
+        ≡ firstOf (indexRest (numbering .length .0) (numbering .radius .0) (now (x .entry))) (0 ∷ indexIn numbering (now (x .entry)) ∷ []) ⌝ }
 {
     if x.len() != numbering.length.0 {
         return Indexed::Refused(Refusal::BufferLength);
@@ -69,10 +96,10 @@ fn index_usable(numbering: Numbering, x: &[i32]) -> Indexed
 fn point_usable(numbering: Numbering, n: u64, out: &mut [i32]) -> Pointed
     requires { ⌜ Usable numbering ⌝ }
     ensures { λ r. ⌜ (pointMeaning r
-        ≡ firstOf (pointRest (numbering .length .0) (numbering .radius .0) n (listed.length (now (out .entry)))) (0 ∷ []))
+        ≡ firstOf (pointRest (enumerationIn numbering) (numbering .length .0) (numbering .radius .0) n (listed.length (now (out .entry)))) (0 ∷ []))
         × (now (out .exit)
-        ≡ leaves (pointRest (numbering .length .0) (numbering .radius .0) n (listed.length (now (out .entry))))
-        (productPoint (numbering .length .0) (numbering .radius .0) n) (now (out .entry))) ⌝ }
+        ≡ leaves (pointRest (enumerationIn numbering) (numbering .length .0) (numbering .radius .0) n (listed.length (now (out .entry))))
+        (pointIn numbering n) (now (out .entry))) ⌝ }
 {
     if out.len() != numbering.length.0 {
         return Pointed::Refused(Refusal::BufferLength);

@@ -7,6 +7,7 @@ use answers::in_numbers;
 use answers::number;
 use counts::Length;
 use counts::Radius;
+use enumeration::Selector;
 use pairing::Checked;
 use pairing::check;
 use points::Indexed;
@@ -48,10 +49,10 @@ pub extern "C" fn probe_count(length: usize, radius: usize) -> u64
 
 // The call index.
 #[no_mangle]
-pub extern "C" fn probe_index(length: usize, radius: usize, x: &[i32]) -> u64
-    ensures { λ r. ⌜ r ≡ coded (indexSays length radius (now (x .entry))) ⌝ }
+pub extern "C" fn probe_index(selector: usize, length: usize, radius: usize, x: &[i32]) -> u64
+    ensures { λ r. ⌜ r ≡ coded (indexSays selector length radius (now (x .entry))) ⌝ }
 {
-    match index(Length(length), Radius(radius), x) {
+    match index(Selector(selector), Length(length), Radius(radius), x) {
         Indexed::At(n) => n,
         Indexed::Refused(refusal) => refused(refusal),
     }
@@ -70,16 +71,20 @@ fn point_item(answer: Pointed, which: usize) -> u64
 // The call point, by an item of what it says.
 #[no_mangle]
 pub extern "C" fn probe_point(
+    selector: usize,
     length: usize,
     radius: usize,
     n: u64,
     out: &mut [i32],
     which: usize,
 ) -> u64
-    ensures { λ r. ⌜ (r ≡ getD (pointSays length radius n (now (out .entry))) which 0)
-        × (now (out .exit) ≡ pointLeaves length radius n (now (out .entry))) ⌝ }
+    ensures { λ r. ⌜ (r ≡ getD (pointSays selector length radius n (now (out .entry))) which 0)
+        × (now (out .exit) ≡ pointLeaves selector length radius n (now (out .entry))) ⌝ }
 {
-    point_item(point(Length(length), Radius(radius), n, out), which)
+    point_item(
+        point(Selector(selector), Length(length), Radius(radius), n, out),
+        which,
+    )
 }
 
 // The number of what check answers: 0, or the refusal's.

@@ -2,7 +2,7 @@
 -- coordinate; and that none of its numbers is large, within lengths to 16 and radii to 32.
 use Prim.Native.Nat.{ℕ, zero, suc, _+_, _-_, _*_, _^_, _≤_, _<_}
 use mathlib.Core.Path.{_≡_, refl, sym, _∙_}
-use mathlib.Core.List.{List, [], _∷_}
+use mathlib.Core.List.{List, _∷_}
 use mathlib.Core.Bool.{Bool, true}
 use native.Mathlib.Omega.{arith}
 use native.Mathlib.Nat.{zero-add, le-trans, le-of-lt}
@@ -17,6 +17,7 @@ use Rattle.enumeration.specs.Product.{patternIndex, signBit, signIndex}
 use Rattle.enumeration.proofs.Parts.{pattern-part, sign-part, nonzeros-part}
 use Rattle.enumeration.proofs.Shapes.{S-start}
 use Rattle.enumeration.proofs.Steps.{nonzeros-grow, pattern-grows, sign-grows}
+use Rattle.enumeration.proofs.Tails.{radius-drop}
 use Rattle.ranges.proofs.Sizes.{D-small-enough, S-small-enough, B-small-enough}
 use Rattle.product.specs.declared.inner.weigh.Weight.{Weight}
 use Rattle.product.specs.Weights.{shapesAfter, nothing, weightOf, extended, Room}
@@ -52,11 +53,6 @@ small y h q =
       after-to = after-small y (radiusOf y) refl q;
       sign-to = le-trans (le-of-lt (sign-part y)) (B-small-enough (nonzerosIn y) s);
     }
-
-pub radius-drop : (x : List ℤ) (at : ℕ) → radiusOf (drop at x) ≤ radiusOf x
-radius-drop x zero = omega arith
-radius-drop [] (suc at) = omega arith
-radius-drop (c ∷ x) (suc at) = omega (arith, radius-drop x at)
 
 -- weights are the same if each number is
 pub same-weight : {s s′ k k′ pattern pattern′ after after′ sign sign′ : ℕ} → s ≡ s′ → k ≡ k′ → pattern ≡ pattern′ → after ≡ after′ → sign ≡ sign′

@@ -1,6 +1,5 @@
 pub mod After
 pub mod Few
-pub mod Coordinates
 pub mod Growth
 pub mod Weighing
 pub mod Writing

@@ -1,20 +1,17 @@
 -- One coordinate of a point that is written from its components: zero, or the next of the shape; and what is left
 -- can be written from again.
-use Prim.Native.Nat.{ℕ, suc, _+_, _-_, _≤_, _<_}
-use mathlib.Core.Path.{_≡_, sym, ap, _∙_}
-use mathlib.Core.List.{List, _∷_, _++_, append-assoc, append-nil}
+use Prim.Native.Nat.{ℕ, suc, _-_, _≤_, _<_}
+use mathlib.Core.Path.{_≡_}
+use mathlib.Core.List.{_∷_}
 use native.Mathlib.Omega.{arith}
-use native.Mathlib.Numerals.{add-one}
 use lib.Dec.{eqb}
 use lib.IntN.{ℤ, pos}
-use lib.ListN.{length, take, set, length-set}
-use lib.Seq.{take-suc-set, take-all}
 use Rattle.counts.specs.Counts.{D}
 use Rattle.enumeration.specs.Point.{signed}
 use Rattle.enumeration.specs.Reading.{bit, firstMagnitude, shapeLeft}
 use Rattle.enumeration.proofs.Patterns.{pattern-at-least, pattern-left}
 use Rattle.enumeration.proofs.Shapes.{first-read}
-use Rattle.enumeration.proofs.Steps.{write-none, write-zero, write-nonzero}
+use Rattle.enumeration.proofs.Steps.{write-zero, write-nonzero}
 use Rattle.product.specs.declared.inner.components.Components.{Components}
 use Rattle.product.specs.declared.inner.read.Step.{Step}
 use Rattle.product.specs.Components.{MakesPoint, writtenFrom}
@@ -66,23 +63,3 @@ pub taken-is : (q : Components) (d i left : ℕ) (c : ℤ) → i ≡ firstMagnit
     (record { c = c; left = record { s = q .s - 1; k = q .k - i; pattern = q .pattern - d; shape = left; sign = q .sign } })
     (taken q d)
 taken-is q d i left c e f g = rw (g, e, f)
-
--- one more coordinate stands in the buffer
-pub write-one : (whole out : List ℤ) (at : ℕ) (q r : Components) (z z′ : ℤ) → at < length out → z′ ≡ z
-    → MakesPoint r (length out - at - 1) × (writtenFrom q (suc (length out - at - 1)) ≡ z ∷ writtenFrom r (length out - at - 1))
-    → whole ≡ take at out ++ writtenFrom q (length out - at)
-    → MakesPoint r (length (set out at z′) - (at + 1)) × (whole ≡ take (at + 1) (set out at z′) ++ writtenFrom r (length (set out at z′) - (at + 1)))
-write-one whole out at q r z z′ h e next inv =
-    let left : length (set out at z′) - (at + 1) ≡ length out - at - 1 = omega (arith, length-set out at z′) in
-    let one : suc (length out - at - 1) ≡ length out - at = omega arith in
-    let rest = length out - at - 1 in (
-      rw left (next .0),
-      rw (left, e, add-one, take-suc-set out at z h, append-assoc)
-          (inv ∙ ap (λ (y : List ℤ). take at out ++ y) (rw one at (next .1))),
-    )
-
--- all stand there
-pub write-all : (whole out : List ℤ) (at : ℕ) (q : Components) → length out ≤ at → whole ≡ take at out ++ writtenFrom q (length out - at) → out ≡ whole
-write-all whole out at q h inv =
-    let none : length out - at ≡ 0 = omega arith in
-    sym (inv ∙ rw (none, write-none (q .s) 0 (q .k) (q .pattern) (q .shape) (q .sign), append-nil) (take-all at out h))

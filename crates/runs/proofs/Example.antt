@@ -4,6 +4,7 @@ use Rattle.counts.specs.Counts.{N, binomial, D, S, B, sumAfter, rangeSize, rang
 use Rattle.enumeration.specs.Product.{patternIndex, shapeOffset, shapeIndex, signIndex, indexFrom, productIndex}
 use Rattle.floats.specs.Units.{ofPattern, unitsOf, unusableCoefficient, negative}
 use Rattle.floats.specs.Nearest.{nearestWhole}
+use Rattle.enumeration.specs.Enumerations.{selectedBy}
 use Rattle.tables.specs.Row.{byteOf, enumerationOf, badRadius, badRadii, badRow}
 use Rattle.tables.specs.Table.{rowAt, placesBefore, rowsBefore}
 use Rattle.shares.specs.Best.{firstBest}
@@ -17,7 +18,7 @@ use Rattle.runs.specs.Run.{coordinatesBefore}
 use Rattle.runs.specs.Example.{Example}
 
 pub example : Example
-unfolding N binomial D S B sumAfter rangeSize rangeStart patternIndex shapeOffset shapeIndex signIndex indexFrom productIndex byteOf enumerationOf badRadius badRadii badRow rowAt placesBefore rowsBefore ofPattern unitsOf unusableCoefficient negative nearestWhole toBits lt firstBest chosenRadiusNumber largest give shared recordOf joined coordinatesBefore eachFour ofBits ofFields odd
+unfolding N binomial D S B sumAfter rangeSize rangeStart patternIndex shapeOffset shapeIndex signIndex indexFrom productIndex byteOf selectedBy enumerationOf badRadius badRadii badRow rowAt placesBefore rowsBefore ofPattern unitsOf unusableCoefficient negative nearestWhole toBits lt firstBest chosenRadiusNumber largest give shared recordOf joined coordinatesBefore eachFour ofBits ofFields odd
 example =
     record {
       before-0 = refl;

@@ -31,7 +31,7 @@ pub fn count(length: Length, radius: Radius) -> Counted
     }
 }
 
-// The checks 1, 2 and 3, which count, index and point begin with.
+// The checks 1, 2 and 3: those of count, and of index and point behind that of the selector.
 pub fn check_shell(length: Length, radius: Radius) -> Verdict
     ensures { λ r. ⌜ verdictMeaning r ≡ firstOf (shellChecks (length .0) (radius .0) (N (length .0) (radius .0))) (0 ∷ []) ⌝ }
 {

@@ -1,6 +1,7 @@
 -- Every line of the example holds by computation.
 use mathlib.Core.Path.{refl}
 use Rattle.counts.specs.Counts.{N}
+use Rattle.enumeration.specs.Enumerations.{selectedBy}
 use Rattle.tables.specs.Row.{byteOf, enumerationOf, badRadius, badRadii, badRow}
 use Rattle.tables.specs.Table.{rowAt, placesBefore, rowsBefore}
 use Rattle.layout.specs.Layout.{stateAt, recordAt}
@@ -8,7 +9,7 @@ use Rattle.rules.specs.Taking.{badCell}
 use Rattle.slate.specs.Example.{Example}
 
 pub example : Example
-unfolding N byteOf enumerationOf badRadius badRadii badRow rowAt placesBefore rowsBefore stateAt recordAt badCell
+unfolding N byteOf selectedBy enumerationOf badRadius badRadii badRow rowAt placesBefore rowsBefore stateAt recordAt badCell
 example =
     record {
       count-3-2 = refl;

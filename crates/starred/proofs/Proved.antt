@@ -4,7 +4,10 @@ use Rattle.counts.specs.Counts.{N, binomial, D, S, B, sumAfter, rangeSize, rang
 use Rattle.counts.specs.Distance.{distance}
 use Rattle.counts.specs.Width.{width, bitsFrom}
 use Rattle.enumeration.specs.Product.{patternIndex, shapeOffset, shapeIndex, signIndex, indexFrom, productIndex}
-use Rattle.enumeration.specs.Reading.{rangeFrom, rangeOf, patternOf, firstMagnitude, shapeLeft, shapeOf, signsOf, pointFrom, pointWithin, productPoint}
+use Rattle.enumeration.specs.Among.{firstAmong, leftAmong}
+use Rattle.enumeration.specs.Enumerations.{selectedBy}
+use Rattle.enumeration.specs.Magnitude.{offset, magnitudeIndex, firstNonzero, firstValue, magnitudePoint}
+use Rattle.enumeration.specs.Reading.{rangeFrom, rangeOf, patternOf, shapeOf, signsOf, pointFrom, pointWithin, productPoint}
 use Rattle.floats.specs.Units.{ofPattern, unitsOf, unusableCoefficient, negative}
 use Rattle.floats.specs.Nearest.{nearestWhole}
 use Rattle.tables.specs.Row.{byteOf, enumerationOf, badRadius, badRadii, badRow}
@@ -17,7 +20,7 @@ use lib.Ieee.{toBits, lt}
 use Rattle.starred.specs.Table.{Table}
 
 pub proved : Table
-unfolding N binomial D S B sumAfter rangeSize rangeStart distance width bitsFrom patternIndex shapeOffset shapeIndex signIndex indexFrom productIndex rangeFrom rangeOf patternOf firstMagnitude shapeLeft shapeOf signsOf pointFrom pointWithin productPoint byteOf enumerationOf badRadius badRadii badRow rowAt placesBefore rowsBefore ofPattern unitsOf unusableCoefficient negative nearestWhole toBits lt firstBest chosenRadiusNumber largest give shared recordOf
+unfolding N binomial D S B sumAfter rangeSize rangeStart distance width bitsFrom patternIndex shapeOffset shapeIndex signIndex indexFrom productIndex rangeFrom rangeOf patternOf firstAmong leftAmong shapeOf signsOf pointFrom pointWithin productPoint offset magnitudeIndex firstNonzero firstValue magnitudePoint byteOf selectedBy enumerationOf badRadius badRadii badRow rowAt placesBefore rowsBefore ofPattern unitsOf unusableCoefficient negative nearestWhole toBits lt firstBest chosenRadiusNumber largest give shared recordOf
 proved =
     record {
       star-index-0 = refl;
@@ -28,6 +31,10 @@ proved =
       star-point-18 = refl;
       star-point-20 = refl;
       buffer-kept = refl;
+      star-magnitude-9 = refl;
+      magnitude-point-9 = refl;
+      magnitude-point-18 = refl;
+      magnitude-point-20 = refl;
       point-17 = refl;
       index-3 = refl;
       index-4-short = refl;
@@ -65,6 +72,7 @@ proved =
       record-0 = refl;
       record-1 = refl;
       record-kept = refl;
+      record-magnitude = refl;
       record-row-1 = refl;
       quantize-7 = refl;
       quantize-8 = refl;

@@ -35,43 +35,48 @@ buffer = triple (pos 9) (pos 9) (pos 9)
 
 pub record Table : Type 0 where
   -- * length 3, radius 2
-  pub star-index-0 : indexSays 3 2 (triple (pos 0) (pos 1) (pos 1)) ≡ 0 ∷ 0 ∷ []
-  pub star-index-5 : indexSays 3 2 (triple (pos 1) (pos 0) (negℤ (pos 1))) ≡ 0 ∷ 5 ∷ []
-  pub star-index-11 : indexSays 3 2 (triple (negℤ (pos 1)) (negℤ (pos 1)) (pos 0)) ≡ 0 ∷ 11 ∷ []
-  pub star-index-12 : indexSays 3 2 (triple (pos 0) (pos 0) (pos 2)) ≡ 0 ∷ 12 ∷ []
-  pub star-index-17 : indexSays 3 2 (triple (negℤ (pos 2)) (pos 0) (pos 0)) ≡ 0 ∷ 17 ∷ []
-  pub star-point-18 : pointSays 3 2 18 buffer ≡ 6 ∷ 0 ∷ []
-  pub star-point-20 : pointSays 3 2 20 buffer ≡ 6 ∷ 2 ∷ []
-  pub buffer-kept : pointLeaves 3 2 18 buffer ≡ buffer
-  pub point-17 : pointLeaves 3 2 17 buffer ≡ triple (negℤ (pos 2)) (pos 0) (pos 0)
+  pub star-index-0 : indexSays 0 3 2 (triple (pos 0) (pos 1) (pos 1)) ≡ 0 ∷ 0 ∷ []
+  pub star-index-5 : indexSays 0 3 2 (triple (pos 1) (pos 0) (negℤ (pos 1))) ≡ 0 ∷ 5 ∷ []
+  pub star-index-11 : indexSays 0 3 2 (triple (negℤ (pos 1)) (negℤ (pos 1)) (pos 0)) ≡ 0 ∷ 11 ∷ []
+  pub star-index-12 : indexSays 0 3 2 (triple (pos 0) (pos 0) (pos 2)) ≡ 0 ∷ 12 ∷ []
+  pub star-index-17 : indexSays 0 3 2 (triple (negℤ (pos 2)) (pos 0) (pos 0)) ≡ 0 ∷ 17 ∷ []
+  pub star-point-18 : pointSays 0 3 2 18 buffer ≡ 6 ∷ 0 ∷ []
+  pub star-point-20 : pointSays 0 3 2 20 buffer ≡ 6 ∷ 2 ∷ []
+  pub buffer-kept : pointLeaves 0 3 2 18 buffer ≡ buffer
+  -- * the same by the magnitude enumeration: (1,0,-1) is 9
+  pub star-magnitude-9 : indexSays 1 3 2 (triple (pos 1) (pos 0) (negℤ (pos 1))) ≡ 0 ∷ 9 ∷ []
+  pub magnitude-point-9 : pointLeaves 1 3 2 9 buffer ≡ triple (pos 1) (pos 0) (negℤ (pos 1))
+  pub magnitude-point-18 : pointSays 1 3 2 18 buffer ≡ 6 ∷ 0 ∷ []
+  pub magnitude-point-20 : pointSays 1 3 2 20 buffer ≡ 6 ∷ 2 ∷ []
+  pub point-17 : pointLeaves 0 3 2 17 buffer ≡ triple (negℤ (pos 2)) (pos 0) (pos 0)
   -- refusals 1 to 6 in their order, with two faults at once: 3 before 4, 4 before 5 and 6, a vector or buffer that
   -- is too short or too long
-  pub index-3 : indexSays 16 13 [] ≡ 3 ∷ []
-  pub index-4-short : indexSays 3 2 (pos 1 ∷ []) ≡ 4 ∷ []
-  pub index-4-long : indexSays 3 2 (pos 1 ∷ triple (pos 0) (pos 1) (pos 1)) ≡ 4 ∷ []
-  pub index-5-less : indexSays 3 2 (triple (pos 0) (pos 0) (pos 1)) ≡ 5 ∷ []
-  pub index-5-more : indexSays 3 2 (triple (pos 1) (pos 1) (pos 1)) ≡ 5 ∷ []
-  pub point-3 : pointSays 16 13 0 [] ≡ 3 ∷ []
-  pub point-4-short : pointSays 3 2 18 (take 2 buffer) ≡ 4 ∷ []
-  pub point-4-long : pointSays 3 2 0 (pos 9 ∷ buffer) ≡ 4 ∷ []
-  pub point-6-0 : pointSays 3 0 1 buffer ≡ 6 ∷ 0 ∷ []
+  pub index-3 : indexSays 0 16 13 [] ≡ 3 ∷ []
+  pub index-4-short : indexSays 0 3 2 (pos 1 ∷ []) ≡ 4 ∷ []
+  pub index-4-long : indexSays 0 3 2 (pos 1 ∷ triple (pos 0) (pos 1) (pos 1)) ≡ 4 ∷ []
+  pub index-5-less : indexSays 0 3 2 (triple (pos 0) (pos 0) (pos 1)) ≡ 5 ∷ []
+  pub index-5-more : indexSays 0 3 2 (triple (pos 1) (pos 1) (pos 1)) ≡ 5 ∷ []
+  pub point-3 : pointSays 0 16 13 0 [] ≡ 3 ∷ []
+  pub point-4-short : pointSays 0 3 2 18 (take 2 buffer) ≡ 4 ∷ []
+  pub point-4-long : pointSays 0 3 2 0 (pos 9 ∷ buffer) ≡ 4 ∷ []
+  pub point-6-0 : pointSays 0 3 0 1 buffer ≡ 6 ∷ 0 ∷ []
   -- * length 2, radius 3
-  pub star-index-2-3-0 : indexSays 2 3 (pos 1 ∷ pos 2 ∷ []) ≡ 0 ∷ 0 ∷ []
-  pub star-index-2-3-5 : indexSays 2 3 (pos 2 ∷ negℤ (pos 1) ∷ []) ≡ 0 ∷ 5 ∷ []
-  pub star-index-2-3-11 : indexSays 2 3 (negℤ (pos 3) ∷ pos 0 ∷ []) ≡ 0 ∷ 11 ∷ []
+  pub star-index-2-3-0 : indexSays 0 2 3 (pos 1 ∷ pos 2 ∷ []) ≡ 0 ∷ 0 ∷ []
+  pub star-index-2-3-5 : indexSays 0 2 3 (pos 2 ∷ negℤ (pos 1) ∷ []) ≡ 0 ∷ 5 ∷ []
+  pub star-index-2-3-11 : indexSays 0 2 3 (negℤ (pos 3) ∷ pos 0 ∷ []) ≡ 0 ∷ 11 ∷ []
   -- * length 1, radius 5
-  pub star-index-1-5 : indexSays 1 5 (negℤ (pos 5) ∷ []) ≡ 0 ∷ 1 ∷ []
+  pub star-index-1-5 : indexSays 0 1 5 (negℤ (pos 5) ∷ []) ≡ 0 ∷ 1 ∷ []
   -- * in length 3, radius 2, bit 1 of index 5 changed gives 7, which is (-1,0,-1)
   pub star-bit-1 : bitXor 5 (2 ^ 1) ≡ 7
-  pub star-point-7 : pointLeaves 3 2 7 buffer ≡ triple (negℤ (pos 1)) (pos 0) (negℤ (pos 1))
+  pub star-point-7 : pointLeaves 0 3 2 7 buffer ≡ triple (negℤ (pos 1)) (pos 0) (negℤ (pos 1))
   -- the lowest i32 is an ordinary coordinate
-  pub lowest : indexSays 1 0 (negℤ (pos (2 ^ 31)) ∷ []) ≡ 5 ∷ []
+  pub lowest : indexSays 0 1 0 (negℤ (pos (2 ^ 31)) ∷ []) ≡ 5 ∷ []
   -- * length 4, radius 0: N = 1, b = 0
   pub star-count-4-0 : N 4 0 ≡ 1
   pub star-width-4-0 : width (N 4 0) ≡ 0
   -- at radius 0 the one point is all zeros, with index 0
-  pub index-4-0 : indexSays 4 0 (replicate 4 (pos 0)) ≡ 0 ∷ 0 ∷ []
-  pub point-4-0 : pointLeaves 4 0 0 (replicate 4 (pos 9)) ≡ replicate 4 (pos 0)
+  pub index-4-0 : indexSays 0 4 0 (replicate 4 (pos 0)) ≡ 0 ∷ 0 ∷ []
+  pub point-4-0 : pointLeaves 0 4 0 0 (replicate 4 (pos 9)) ≡ replicate 4 (pos 0)
   -- a length is never taken for a radius
   pub count-2-3 : N 2 3 ≡ 12
   pub count-3-2 : N 3 2 ≡ 18
@@ -93,6 +98,8 @@ pub record Table : Type 0 where
   pub record-0 : quantizeLeaves wholeCase 0 vector held ≡ 0 ∷ 0 ∷ 0 ∷ 1 ∷ 0 ∷ 0 ∷ 0 ∷ 5 ∷ []
   pub record-1 : quantizeLeaves wholeCase 1 vector held ≡ 0 ∷ 1 ∷ 0 ∷ 1 ∷ 0 ∷ 0 ∷ 0 ∷ 5 ∷ []
   pub record-kept : quantizeLeaves wholeCase 2 vector held ≡ held
+  -- with byte 14 the selector 1, the same point has the codeword 9
+  pub record-magnitude : quantizeLeaves (take 14 wholeCase ++ 1 ∷ 0 ∷ []) 0 vector held ≡ 0 ∷ 0 ∷ 0 ∷ 1 ∷ 0 ∷ 0 ∷ 0 ∷ 9 ∷ []
   -- in the second row, of length 5 and step 775, the sum 576 is nearest to radius 1, of number 1
   pub record-row-1 : quantizeLeaves twoRows 2 longer held ≡ 0 ∷ 2 ∷ 1 ∷ 1 ∷ 0 ∷ 0 ∷ 0 ∷ 8 ∷ []
   -- refusals 7, 8, 4 and 11 in their order, with two faults at once; a vector or record that is too short or too long

@@ -1,12 +1,13 @@
 -- Every line of the example holds by computation.
 use mathlib.Core.Path.{refl}
 use Rattle.counts.specs.Counts.{N}
+use Rattle.enumeration.specs.Enumerations.{selectedBy}
 use Rattle.tables.specs.Row.{byteOf, enumerationOf, badRadius, badRadii, badRow}
 use Rattle.tables.specs.Table.{rowAt, placesBefore, rowsBefore}
 use Rattle.tables.specs.Example.{Example}
 
 pub example : Example
-unfolding N byteOf enumerationOf badRadius badRadii badRow rowAt placesBefore rowsBefore
+unfolding N byteOf selectedBy enumerationOf badRadius badRadii badRow rowAt placesBefore rowsBefore
 example =
     record {
       length-0 = refl;
@@ -20,6 +21,8 @@ example =
       step-0 = refl;
       step-1 = refl;
       places-1 = refl;
+      selector-0 = refl;
+      selector-1 = refl;
       first-row = refl;
       second-row = refl;
       no-row = refl;
@@ -42,8 +45,10 @@ example =
       past-largest = refl;
       at-largest = refl;
       unused-radius = refl;
-      byte-14 = refl;
+      byte-14-of-1 = refl;
+      byte-14-of-2 = refl;
       byte-15 = refl;
+      byte-15-behind-1 = refl;
       most-points = refl;
       too-many = refl;
       shell-1 = refl;
@@ -59,6 +64,8 @@ example =
       row-of-261 = refl;
       length-at-1 = refl;
       length-at-2 = refl;
+      enumeration-at-1 = refl;
+      enumeration-at-2 = refl;
       place-261 = refl;
       place-262 = refl;
       none = refl;

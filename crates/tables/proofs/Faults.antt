@@ -9,10 +9,11 @@ use native.Mathlib.Decide.{decLt, decLe}
 use lib.Dec.{eqb, leb, ltb}
 use borrow.Author.Tests.{lt-ltb, le-ltb}
 use Rattle.counts.specs.Counts.{N}
+use Rattle.enumeration.proofs.Selected.{selected-total}
 use Rattle.tables.specs.Largest.{largestRadius}
 use Rattle.tables.specs.Usable.{mostPoints, unusableShell}
 use Rattle.tables.proofs.Largest.{largest-to, usable-up-to, unusable-past}
-use Rattle.tables.specs.Row.{lengthOf, enumerationOf, radiiOf, radiusAt, unusableRadius, outOfOrder, badRadius, badRadii}
+use Rattle.tables.specs.Row.{lengthOf, selectorOf, enumerationOf, radiiOf, radiusAt, unusableRadius, outOfOrder, badRadius, badRadii}
 
 -- a shell of N points is unusable exactly above the largest radius of its length
 above-largest : (l k : ℕ) → 1 ≤ l → l ≤ 16 → ltb (largestRadius l) k ≡ unusableShell l k (N l k)
@@ -27,7 +28,7 @@ above-largest l k p q = rw (le-ltb l 1 p, le-ltb 16 l q) (go (decLt 32 k) (decLe
 -- and so is a radius of a row
 pub radius-above-largest : (row : List ℕ) (k : ℕ) → 1 ≤ lengthOf row → lengthOf row ≤ 16 → ltb (largestRadius (lengthOf row)) k ≡ unusableRadius row k
 unfolding enumerationOf
-radius-above-largest row k p q = above-largest (lengthOf row) k p q
+radius-above-largest row k p q = rw (selected-total (selectorOf row) (lengthOf row) k) (above-largest (lengthOf row) k p q)
 
 module _ (row : List ℕ) (n : ℕ) where
   pub unused-says : radiiOf row ≤ n → not (eqb (radiusAt row n) 0) ≡ badRadius row n

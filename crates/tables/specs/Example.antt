@@ -1,5 +1,5 @@
--- Two rows, read by the definitions: the row of the whole case (docs/RULES.md, "Worked cases"), and one in which
--- every byte up to the last two differs from its neighbours; the faults of each; and tables of those rows.
+-- Two rows, read by the definitions: the row of the whole case (docs/RULES.md, "Worked cases"), and one of the
+-- magnitude enumeration in which every byte differs from its neighbours; the faults of each; and tables of those rows.
 -- proofs/Example.antt computes every line.
 use Prim.Native.Nat.{ℕ, zero, suc}
 use mathlib.Core.Path.{_≡_}
@@ -8,16 +8,17 @@ use mathlib.Core.Bool.{true, false}
 use lib.ListN.{take, drop}
 use Rattle.answers.specs.Checks.{firstOf}
 use Rattle.counts.specs.Counts.{N}
+use Rattle.enumeration.specs.Enumerations.{product, magnitude}
 use Rattle.tables.specs.Usable.{tooMany, shellChecks}
-use Rattle.tables.specs.Row.{lengthOf, radiiOf, radiusAt, stepOf, placesOf, badRow}
-use Rattle.tables.specs.Table.{rowAt, tableRoom, checkSays, noSuchPlace, rowOf, lengthFor}
+use Rattle.tables.specs.Row.{lengthOf, radiiOf, radiusAt, stepOf, placesOf, selectorOf, badRow}
+use Rattle.tables.specs.Table.{rowAt, tableRoom, checkSays, noSuchPlace, rowOf, lengthFor, enumerationFor}
 
 abbrev pub wholeCase : List ℕ
 wholeCase = 3 ∷ 2 ∷ 0 ∷ 2 ∷ 0 ∷ 0 ∷ 0 ∷ 0 ∷ 0 ∷ 0 ∷ 1 ∷ 0 ∷ 0 ∷ 2 ∷ 0 ∷ 0 ∷ []
 
--- length 5, eight radii, step 3 x 256 + 7, places 1 x 256 + 4
+-- length 5, eight radii, step 3 x 256 + 7, places 1 x 256 + 4, selector 1
 abbrev pub fullRow : List ℕ
-fullRow = 5 ∷ 8 ∷ 0 ∷ 1 ∷ 3 ∷ 5 ∷ 9 ∷ 14 ∷ 20 ∷ 32 ∷ 3 ∷ 7 ∷ 1 ∷ 4 ∷ 0 ∷ 0 ∷ []
+fullRow = 5 ∷ 8 ∷ 0 ∷ 1 ∷ 3 ∷ 5 ∷ 9 ∷ 14 ∷ 20 ∷ 32 ∷ 3 ∷ 7 ∷ 1 ∷ 4 ∷ 1 ∷ 0 ∷ []
 
 abbrev pub twoRows : List ℕ
 twoRows = wholeCase ++ fullRow
@@ -43,6 +44,8 @@ pub record Example : Type 0 where
   pub step-0 : stepOf wholeCase ≡ 256
   pub step-1 : stepOf fullRow ≡ 775
   pub places-1 : placesOf fullRow ≡ 260
+  pub selector-0 : selectorOf wholeCase ≡ 0
+  pub selector-1 : selectorOf fullRow ≡ 1
   -- the rows of the table of both
   pub first-row : rowAt twoRows 0 ≡ wholeCase
   pub second-row : rowAt twoRows 1 ≡ fullRow
@@ -71,8 +74,11 @@ pub record Example : Type 0 where
   pub past-largest : badRow (16 ∷ 2 ∷ 0 ∷ 13 ∷ drop 4 wholeCase) ≡ true
   pub at-largest : badRow (16 ∷ 2 ∷ 0 ∷ 12 ∷ drop 4 wholeCase) ≡ false
   pub unused-radius : badRow (take 4 wholeCase ++ 2 ∷ drop 5 wholeCase) ≡ true
-  pub byte-14 : badRow (take 14 wholeCase ++ 1 ∷ 0 ∷ []) ≡ true
+  -- byte 14 is 0 or 1, and byte 15 is 0 with either
+  pub byte-14-of-1 : badRow (take 14 wholeCase ++ 1 ∷ 0 ∷ []) ≡ false
+  pub byte-14-of-2 : badRow (take 14 wholeCase ++ 2 ∷ 0 ∷ []) ≡ true
   pub byte-15 : badRow (take 15 wholeCase ++ 1 ∷ []) ≡ true
+  pub byte-15-behind-1 : badRow (take 15 fullRow ++ 1 ∷ []) ≡ true
   -- a shell of 2^32 points is within the limit, and one of a point more is not; no shell has either number of points
   pub most-points : tooMany 4294967296 ≡ false
   pub too-many : tooMany 4294967297 ≡ true
@@ -94,6 +100,9 @@ pub record Example : Type 0 where
   -- and the length of their points
   pub length-at-1 : lengthFor twoRows 1 ≡ 3
   pub length-at-2 : lengthFor twoRows 2 ≡ 5
+  -- each row has its own enumeration
+  pub enumeration-at-1 : enumerationFor twoRows 1 ≡ product
+  pub enumeration-at-2 : enumerationFor twoRows 2 ≡ magnitude
   -- the last place of all, and one more
   pub place-261 : noSuchPlace twoRows 261 ≡ false
   pub place-262 : noSuchPlace twoRows 262 ≡ true

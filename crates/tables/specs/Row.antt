@@ -9,7 +9,7 @@ use lib.ListN.{length, getD}
 use Rattle.answers.specs.Checks.{pick, anyOf}
 use Rattle.octets.specs.Octets.{fromHigh}
 use Rattle.enumeration.specs.Enumeration.{Enumeration}
-use Rattle.enumeration.specs.Enumerations.{product}
+use Rattle.enumeration.specs.Enumerations.{selectedBy, selectsNone}
 use Rattle.tables.specs.Usable.{lengthOutside, unusableShell, IsUsable}
 
 -- so many bytes a row: records of one fixed size
@@ -44,9 +44,13 @@ stepOf row = pairOf row 10
 abbrev pub placesOf : List ℕ → ℕ
 placesOf row = pairOf row 12
 
--- the enumeration that numbers the points of a row: the product enumeration, whatever the row holds
+-- 14: selector
+abbrev pub selectorOf : List ℕ → ℕ
+selectorOf row = byteOf row 14
+
+-- the row's own enumeration, which numbers the points of its shells
 unfoldable pub enumerationOf : List ℕ → Enumeration
-enumerationOf row = product
+enumerationOf row = selectedBy (selectorOf row)
 
 -- the total of the shell of a radius
 abbrev pub shellTotal : List ℕ → ℕ → ℕ
@@ -83,13 +87,13 @@ badStep row = ltb (stepOf row) 1
 abbrev pub noPlaces : List ℕ → Bool
 noPlaces row = ltb (placesOf row) 1
 
--- 14 to 15: zero
+-- 15: zero
 abbrev pub notZero : List ℕ → ℕ → Bool
 notZero row j = not (eqb (byteOf row j) 0)
 
 -- the faults of what stands behind the radii
 abbrev pub tailFaults : List ℕ → List Bool
-tailFaults row = badStep row ∷ noPlaces row ∷ notZero row 14 ∷ notZero row 15 ∷ []
+tailFaults row = badStep row ∷ noPlaces row ∷ selectsNone (selectorOf row) ∷ notZero row 15 ∷ []
 
 -- a row that is bad by itself
 unfoldable pub badRow : List ℕ → Bool
@@ -107,7 +111,7 @@ pub record GoodRow (row : List ℕ) : Type 0 where
   pub radius-unused : (n : ℕ) → radiiOf row ≤ n → n < 8 → radiusAt row n ≡ 0
   pub step-from : 1 ≤ stepOf row
   pub places-from : 1 ≤ placesOf row
-  pub zero-14 : byteOf row 14 ≡ 0
+  pub selector-to : selectorOf row ≤ 1
   pub zero-15 : byteOf row 15 ≡ 0
 
 -- the bytes of a good row, as a function is lent them

@@ -8,7 +8,8 @@ use mathlib.Core.Bool.{Bool, not}
 use lib.Dec.{eqb, leb, ltb}
 use lib.ListN.{length, take, drop}
 use Rattle.answers.specs.Checks.{Check, anyOf, pick, firstOf, eachFrom, Passes}
-use Rattle.tables.specs.Row.{rowLength, lengthOf, placesOf, badRow}
+use Rattle.enumeration.specs.Enumeration.{Enumeration}
+use Rattle.tables.specs.Row.{rowLength, lengthOf, placesOf, enumerationOf, badRow}
 
 -- how many rows there are
 abbrev pub rowsOf : List ℕ → ℕ
@@ -92,6 +93,10 @@ rowFor t p = rowAt t (rowOf t p)
 
 abbrev pub lengthFor : List ℕ → ℕ → ℕ
 lengthFor t p = lengthOf (rowFor t p)
+
+-- and the enumeration that numbers them: the row's own
+abbrev pub enumerationFor : List ℕ → ℕ → Enumeration
+enumerationFor t p = enumerationOf (rowFor t p)
 
 -- what is told of a table and a place once they have passed some checks: the number of places, and the row of the
 -- place

@@ -40,6 +40,8 @@ enum thing {
     RADIUS_32_MENDED,
     TWO_DIGITS,
     TWO_DIGITS_NEGATIVE,
+    PRODUCT_SHOWN,
+    MAGNITUDE_SHOWN,
     THINGS
 };
 
@@ -74,6 +76,8 @@ static const char *const names[THINGS] = {
     [RADIUS_32_MENDED] = "mended places of radius 32",
     [TWO_DIGITS] = "coordinates above 9",
     [TWO_DIGITS_NEGATIVE] = "coordinates below -9",
+    [PRODUCT_SHOWN] = "places of selector 0 with a point that would be another one with selector 1",
+    [MAGNITUDE_SHOWN] = "places of selector 1 with a point that would be another one with selector 0",
 };
 
 static const enum thing other_row_at[READINGS] = {
@@ -88,6 +92,7 @@ static struct {
     uint64_t things[THINGS];
     uint64_t answers[READINGS];
     uint64_t differing[RECORD_SIZE];               /* places contested by records that differ in that byte alone */
+    uint64_t of_selector[SELECTORS][READINGS];
     uint64_t of_length[READINGS][MOST_LENGTH + 1]; /* sound ones and mended ones */
     uint64_t of_width[READINGS][WIDTHS];
 } counted;
@@ -128,7 +133,7 @@ static uint64_t power_in(const uint8_t *row, const uint8_t *record)
     const uint64_t number = record[AT_RADIUS_NUMBER];
     if (number >= row[AT_NUMBER_OF_RADII])
         return 0;
-    return least_power_from(points_of((struct shell){row[AT_LENGTH], row[AT_RADII + number]}));
+    return least_power_from(points_of(shell_of(row, number)));
 }
 
 /* A record of another row than that of its place. */
@@ -195,6 +200,7 @@ static void count_shown(struct reading reading, uint64_t codeword)
     count_if(codeword == n, MENDED_FIRST);
     count_if(is_mended && codeword == ((uint64_t)1 << b) - 1, MENDED_LAST);
     count_if(reading.distance >= 1 << 24, MENDED_FAR);
+    count_if(is_index_telling(reading.shell, point), reading.shell.selector == MAGNITUDE ? MAGNITUDE_SHOWN : PRODUCT_SHOWN);
     for (uint64_t i = 0; i < reading.shell.length; i++) {
         count_if(point[i] > 9, TWO_DIGITS);
         count_if(point[i] < -9, TWO_DIGITS_NEGATIVE);
@@ -218,6 +224,7 @@ static void count_place(const struct table *table, uint64_t place)
     const struct reading reading = reading_of(table, &gathering, place);
     const uint8_t *first = gathering.came[place].first;
     counted.answers[reading.word]++;
+    counted.of_selector[row_at(table, place)[AT_SELECTOR]][reading.word]++;
     count_if(reading.word != CONTESTED && gathering.came[place].claims > 1, HELD_AND_REPEATED);
     count_if(told[place].has_other_row, other_row_at[reading.word]);
     if (reading.word == CONTESTED)
@@ -248,8 +255,10 @@ static void require_all(void)
 {
     for (int thing = 0; thing < THINGS; thing++)
         require(counted.things[thing], 1, "full page,", names[thing]);
-    for (uint64_t word = 0; word < READINGS; word++)
-        require_number(counted.answers[word], 1, "full page, places with answer", word);
+    for (uint64_t word = 0; word < READINGS; word++) {
+        require_number(counted.of_selector[PRODUCT][word], 1, "full page, places of selector 0 with answer", word);
+        require_number(counted.of_selector[MAGNITUDE][word], 1, "full page, places of selector 1 with answer", word);
+    }
     for (uint64_t i = AT_RADIUS_NUMBER; i < RECORD_SIZE; i++)
         require_number(counted.differing[i], 1, "full page, places contested by records that differ in one byte alone, byte", i);
     for (uint64_t length = 1; length <= MOST_LENGTH; length++) {

@@ -39,10 +39,11 @@ int main(int words, char **word)
         return 1;
     }
     count_points();
-    count_patterns_and_shapes();
+    count_for_ranking();
     make_small_cases(word[1]);
     make_table_cases(word[1]);
     make_place_cases(word[1]);
+    make_selector_cases(word[1]);
     make_sent_cases(word[1]);
     make_full_page(word[1]);
     make_sent_full(word[1]);

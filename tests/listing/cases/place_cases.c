@@ -241,18 +241,21 @@ static const char codewords_text[] = "0 sound 0 0 1 1\n"
                                      "49 unreadable 14 0 0\n"
                                      "tally 30 18 0 0 2 0\n";
 
-static void make_every_codeword(const char *folder)
+/* Both rows have the selector. */
+void make_every_codeword(const char *folder, const char *name, uint8_t selector, const char *text)
 {
-    uint8_t records[RECORD_SIZE * CODEWORDS];
+    uint8_t records[RECORD_SIZE * CODEWORDS], table[sizeof codewords_table];
     for (uint64_t place = 0; place < CODEWORDS; place++) {
         const uint64_t row = place >= PLACES_OF_0;
         write_record(records + RECORD_SIZE * place, place, row, 1, place - PLACES_OF_0 * row);
     }
-    write_case(folder, &(struct stored_case){"every_codeword", BYTES(codewords_table), BYTES(records), codewords_text});
+    for (uint64_t at = 0; at < sizeof table; at++)
+        table[at] = at % ROW_SIZE == AT_SELECTOR ? selector : codewords_table[at];
+    write_case(folder, &(struct stored_case){name, BYTES(table), BYTES(records), text});
 }
 
 void make_place_cases(const char *folder)
 {
     write_cases(folder, cases, ENTRIES(cases));
-    make_every_codeword(folder);
+    make_every_codeword(folder, "every_codeword", PRODUCT, codewords_text);
 }

@@ -20,7 +20,8 @@ static void spread_by_chance(uint8_t *row, uint64_t largest)
 }
 
 /* 32 rows. The first 16 have every length and 8 radii; the others have every length again, in another order, and 8 to 1
-   radii. Two rows share 256 places, the first two as 1 and 255. */
+   radii. Of the two rows of a length each has another selector. Two rows share 256 places, the first two as 1 and
+   255. */
 struct table full_table(void)
 {
     const uint64_t steps[] = {1, 255, 256, 65535};
@@ -34,6 +35,7 @@ struct table full_table(void)
         (is_even ? spread_evenly : spread_by_chance)(row, largest_radius(row[AT_LENGTH]));
         set_two_bytes(row + AT_STEP, number % 4 == 0 ? steps[number / 4 % ENTRIES(steps)] : 1 + chance_below(65535));
         set_two_bytes(row + AT_PLACES, places);
+        row[AT_SELECTOR] = (uint8_t)((number + number / MOST_LENGTH) % SELECTORS);
         places = number % 2 == 0 ? 256 - places : 64 + chance_below(128);
     }
     own_figure("faults of the full table", judge(table.bytes, table.size).faults, 0);

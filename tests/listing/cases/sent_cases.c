@@ -25,6 +25,25 @@ static const char rows_missing[] = "0 missing 0 0 0 0\n"
                                    "2 missing 0 0 0\n"
                                    "tally 0 0 3 0 0 0\n";
 
+/* The same with row 0 of selector 1, and the vector of place 2 again in a row of selector 1. */
+static const uint8_t selectors_table[] = {
+    3, 2, 0, 2, 0, 0, 0, 0, 0, 0, 1, 0,  0, 2, 1, 0, /* places 0 and 1 */
+    2, 2, 0, 4, 0, 0, 0, 0, 0, 0, 0, 77, 0, 1, 0, 0, /* place 2 */
+    2, 2, 0, 4, 0, 0, 0, 0, 0, 0, 0, 77, 0, 1, 1, 0, /* place 3 */
+};
+static const uint8_t selectors_run[] = {
+    F32(0x3fc00000), F32(0),          F32(0xbf400000), /* 1.5, 0, -0.75 */
+    F32(0),          F32(0),          F32(0xbfc00000), /* 0, 0, -1.5 */
+    F32(0x3f800000), F32(0xbf800000),                  /* 1, -1 */
+    F32(0x3f800000), F32(0xbf800000),                  /* 1, -1 */
+};
+static const uint8_t selectors_records[] = {RECORD(0, 0, 1, 9), RECORD(1, 0, 1, 1), RECORD(2, 1, 1, 5), RECORD(3, 2, 1, 7)};
+static const char selectors_text[] = "0 sound 0 1 0 -1\n"
+                                     "1 sound 0 0 0 -2\n"
+                                     "2 sound 0 2 -2\n"
+                                     "3 sound 0 2 -2\n"
+                                     "tally 4 0 0 0 0 0\n";
+
 /* An infinity at place 1, and in place 2 a NaN and 32,768. */
 static const uint8_t unusable_run[] = {
     F32(0x3fc00000), F32(0), F32(0xbf400000), F32(0), F32(0), F32(0x7f800000), F32(0x7fc00000), F32(0x47000000),
@@ -115,6 +134,7 @@ static const char ties_text[] = "0 sound 0 0 0 0\n"
 
 static const struct sent_case cases[] = {
     {{"sent_rows", BYTES(rows_table), BYTES(rows_records), rows_text}, BYTES(rows_run), NULL},
+    {{"sent_selectors", BYTES(selectors_table), BYTES(selectors_records), selectors_text}, BYTES(selectors_run), NULL},
     {{"sent_halves", BYTES(halves_table), BYTES(halves_records), halves_text}, BYTES(halves_run), NULL},
     {{"sent_ties", BYTES(ties_table), BYTES(ties_records), ties_text}, BYTES(ties_run), NULL},
     {{"sent_not", BYTES(rows_table), {0}, rows_missing}, BYTES(unusable_run), "refused 11 1 2\n"},

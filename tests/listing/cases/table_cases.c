@@ -58,7 +58,7 @@ static const struct {
     {"bad_beyond", 3, AT_RADII + 7, 12, BEYOND_NOT_0},
     {"bad_step", 3, AT_STEP + 1, 0, NO_STEP},
     {"bad_places", 3, AT_PLACES + 1, 0, NO_PLACES},
-    {"bad_byte_14", 3, AT_14, 1, BYTE_14_NOT_0},
+    {"bad_byte_14", 3, AT_SELECTOR, 2, BAD_SELECTOR},
 };
 
 static uint32_t faults_made; /* the bit 1 << fault for each */

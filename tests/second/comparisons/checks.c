@@ -54,7 +54,7 @@ static struct vector with_faults(const struct vector *right, int set)
     if (set & WRONG_PLACE)
         wrong.place = wrong_place(places_of(right));
     if (set & WRONG_TABLE)
-        wrong.table.bytes[chance_below(wrong.table.size / ROW_SIZE) * ROW_SIZE + AT_15] = 1;
+        spoil_table(&wrong.table);
     return wrong;
 }
 

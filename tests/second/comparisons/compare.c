@@ -8,12 +8,9 @@
 #include <stdio.h>
 #include <stdlib.h>
 
-struct comparisons compared;
+enum { LEAST = 10000 }; /* of each refusal of index, and of point */
 
-static void print_call(const char *call, struct shell shell, uint64_t lent)
-{
-    printf("%s, length %lu, radius %lu, buffer of %lu", call, shell.length, shell.radius, lent);
-}
+struct comparisons compared;
 
 void note(uint64_t expected, uint64_t *kind)
 {
@@ -35,25 +32,16 @@ void expect_count(struct shell shell, uint64_t expected)
 
 void expect_index(struct shell shell, const int32_t *point, uint64_t point_length, uint64_t expected)
 {
-    const struct point_room before = garbage_around(point, point_length);
-    struct point_room room = before;
-    uint64_t got = probe_index(shell.length, shell.radius, room.cells + GUARDS, point_length);
-    if (got == expected && same_points(&room, &before)) {
-        note(expected, &compared.indices);
-        return;
-    }
-    print_call("probe_index", shell, point_length);
-    print_point(", point", point, point_length);
-    if (got == expected)
-        end("the point that it was lent is changed");
-    differ(expected, got);
+    expect_indexing("probe_index", probe_index, shell, point, point_length, expected);
+    note(expected, &compared.indices);
+    compared.of_index[expected > REFUSED ? expected - REFUSED : 0]++;
 }
 
 /* The point that the call answers, which must be all that it writes. */
 void read_point(struct shell shell, uint64_t index, int32_t *point)
 {
     struct point_room room = garbage();
-    uint64_t got = probe_point(shell.length, shell.radius, index, room.cells + GUARDS, shell.length, 0);
+    uint64_t got = probe_point(shell.selector, shell.length, shell.radius, index, room.cells + GUARDS, shell.length, 0);
     for (uint64_t i = 0; i < shell.length; i++)
         point[i] = room.cells[GUARDS + i];
     const struct point_room allowed = garbage_around(point, shell.length);
@@ -93,18 +81,26 @@ void expect_point_refused(struct shell shell, uint64_t index, uint64_t out_lengt
     own_figure("refusal of a point", expected.items[0], refusal);
     expect_pointing("probe_point", probe_point, &asked, expected, point);
     compared.refusals[refusal]++;
+    compared.of_point[refusal]++;
 }
 
-/* Both calls with no buffer at all: a null pointer and length 0. */
+/* Both calls with no buffer at all: length 0, by a null pointer too. */
 void expect_refused_without_buffer(struct shell shell, uint64_t index, uint32_t refusal)
 {
-    uint64_t from_index = probe_index(shell.length, shell.radius, 0, 0);
-    if (from_index != REFUSED + refusal) {
-        print_call("probe_index", shell, 0);
-        differ(REFUSED + refusal, from_index);
-    }
-    compared.refusals[refusal]++;
+    expect_index(shell, 0, 0, REFUSED + refusal);
     expect_point_refused(shell, index, 0, refusal);
+}
+
+/* Ends the program unless each refusal of both calls was compared often enough. */
+void require_refusals(void)
+{
+    const uint64_t of_both[] = {20, 1, 2, 3, 4};
+    for (uint64_t i = 0; i < ENTRIES(of_both); i++) {
+        require_number(compared.of_index[of_both[i]], LEAST, "calls of index refused with", of_both[i]);
+        require_number(compared.of_point[of_both[i]], LEAST, "calls of point refused with", of_both[i]);
+    }
+    require_number(compared.of_index[5], LEAST, "calls of index refused with", 5);
+    require_number(compared.of_point[6], LEAST, "calls of point refused with", 6);
 }
 
 /* Both calls with a pairing table: 0 and the number of its places, or 7 and the row. */
@@ -144,4 +140,11 @@ void expect_check_without_table(void)
         differ(0, got_value);
     }
     compared.refusals[7]++;
+}
+
+/* By both calls. */
+void expect_quantize(const struct vector *vector, const struct answer *expected)
+{
+    expect_quantizing("probe_quantize", (struct quantize_calls){probe_quantize, probe_quantize_value}, vector, expected);
+    note(as_answer(expected->refusal), &compared.vectors);
 }

@@ -23,6 +23,8 @@ struct comparisons {
     uint64_t calls_of_page; /* how many calls the last five took */
     uint64_t sends;
     uint64_t refusals[MOST_REFUSAL + 1];
+    uint64_t of_index[MOST_REFUSAL + 1]; /* of these those of index, and 0 for what it answers */
+    uint64_t of_point[MOST_REFUSAL + 1]; /* of these those of point */
 };
 extern struct comparisons compared;
 void expect_count(struct shell shell, uint64_t expected);
@@ -32,12 +34,11 @@ void expect_point_refused(struct shell shell, uint64_t index, uint64_t out_lengt
 void expect_refused_without_buffer(struct shell shell, uint64_t index, uint32_t refusal);
 void expect_check(const struct table *table, uint32_t refusal, uint64_t value);
 void expect_check_without_table(void);
+void expect_quantize(const struct vector *vector, const struct answer *expected);
+void require_refusals(void);
 void read_point(struct shell shell, uint64_t index, int32_t *point);
 _Noreturn void wrong_point(struct shell shell, uint64_t index, const int32_t *point, const char *what);
 void note(uint64_t expected, uint64_t *kind);
-
-/* compare_record.c: one comparison of quantize */
-void expect_quantize(const struct vector *vector, const struct answer *expected);
 
 /* compare_page.c: one comparison of take or collect with the rules of the page, whose answer is returned */
 struct list compare_take(const struct table *table, struct page *page, const struct arrival *arrival);

@@ -1,11 +1,12 @@
-/* The first and the last point of every range of every usable shell, and so of every shell; docs/RULES.md, "The product
-   index", in the order that listing.c explains. These points are written down directly. */
+/* The first and the last point of every range of every usable shell, and so of every shell, in both enumerations;
+   docs/RULES.md, "The product index" and "The magnitude index", in the orders that listing.c explains. These points are
+   written down directly. In the magnitude enumeration a range has the points with one value of the first coordinate. */
 
 #include "comparisons.h"
 
 #include <stdio.h>
 
-static uint64_t shells, range_ends;
+static uint64_t shells, range_ends[SELECTORS];
 
 /* s nonzero coordinates as late as can be, the magnitudes 1 but for the last, all positive. */
 static void first_of_range(struct shell shell, uint64_t s, int32_t *point)
@@ -29,43 +30,73 @@ static void compare_both(struct shell shell, const int32_t *point, uint64_t inde
     expect_point(shell, index, point);
 }
 
-static void compare_zero(struct shell shell)
+/* A range of so many points from `start` on; where the next one begins. */
+static uint64_t compare_range(struct shell shell, uint64_t start, uint64_t size, const int32_t *first, const int32_t *last)
 {
-    const int32_t zero[MOST_LENGTH] = {0};
-    compare_both(shell, zero, 0);
+    compare_both(shell, first, start);
+    compare_both(shell, last, start + size - 1);
+    range_ends[shell.selector] += 2;
+    return start + size;
 }
 
 /* The ranges from s = m down to 1: the first begins at 0, and the last ends at N. */
-static void compare_ranges(struct shell shell)
+static uint64_t compare_product(struct shell shell)
 {
     uint64_t start = 0;
     for (uint64_t s = most_nonzero(shell); s > 0; s--) {
-        int32_t point[MOST_LENGTH];
-        uint64_t next = start + range_size(shell, s);
-        first_of_range(shell, s, point);
-        compare_both(shell, point, start);
-        last_of_range(shell, s, point);
-        compare_both(shell, point, next - 1);
-        start = next;
-        range_ends += 2;
+        int32_t first[MOST_LENGTH], last[MOST_LENGTH];
+        first_of_range(shell, s, first);
+        last_of_range(shell, s, last);
+        start = compare_range(shell, start, range_size(shell, s), first, last);
     }
-    if (start != points_of(shell))
+    return start;
+}
+
+/* The points with one value of the first coordinate, which leaves a sum to the others: at first the last of these has
+   all of it, and at last the second coordinate of all, negative. Where there is no other the sum must be 0. */
+static uint64_t compare_value(struct shell shell, int32_t value, uint64_t start)
+{
+    const uint64_t left = shell.radius - magnitude(value), size = points_of((struct shell){shell.length - 1, left, MAGNITUDE});
+    int32_t first[MOST_LENGTH] = {value}, last[MOST_LENGTH] = {value};
+    if (shell.length > 1) {
+        first[shell.length - 1] = (int32_t)left;
+        last[1] = -(int32_t)left;
+    }
+    return size > 0 ? compare_range(shell, start, size, first, last) : start;
+}
+
+/* The ranges of 0, 1, -1 and so on up to k and -k. */
+static uint64_t compare_magnitude(struct shell shell)
+{
+    uint64_t start = compare_value(shell, 0, 0);
+    for (int32_t value = 1; value <= (int32_t)shell.radius; value++) {
+        start = compare_value(shell, value, start);
+        start = compare_value(shell, -value, start);
+    }
+    return start;
+}
+
+static void compare_ranges(struct shell shell)
+{
+    const int32_t zero[MOST_LENGTH] = {0};
+    if (shell.radius == 0)
+        compare_both(shell, zero, 0);
+    else if ((shell.selector == MAGNITUDE ? compare_magnitude : compare_product)(shell) != points_of(shell))
         own_error("its ranges do not add up to N", shell);
 }
 
-static void compare_shell(struct shell shell)
+static void compare_count(struct shell shell)
 {
-    expect_count(shell, points_of(shell));
-    if (shell.radius == 0)
-        compare_zero(shell);
-    else
-        compare_ranges(shell);
-    shells++;
+    if (is_usable(shell)) {
+        expect_count(shell, points_of(shell));
+        shells++;
+    }
 }
 
 void compare_ends(void)
 {
-    for_each_usable_shell(compare_shell);
+    for_each_shell(compare_count);
     own_figure("usable shells", shells, 407);
-    printf("ends: %lu usable shells, %lu ends of ranges\n", shells, range_ends);
+    for_each_numbering(compare_ranges);
+    printf("ends: %lu usable shells, %lu and %lu ends of ranges\n", shells, range_ends[PRODUCT], range_ends[MAGNITUDE]);
 }

@@ -10,34 +10,44 @@ static const struct {
     int32_t point[4];
     uint64_t index;
 } points[] = {
-    {{3, 2}, {0, 1, 1}, 0},
-    {{3, 2}, {1, 0, -1}, 5},
-    {{3, 2}, {-1, 0, -1}, 7},
-    {{3, 2}, {-1, -1, 0}, 11},
-    {{3, 2}, {0, 0, 2}, 12},
-    {{3, 2}, {-2, 0, 0}, 17},
-    {{2, 3}, {1, 2}, 0},
-    {{2, 3}, {2, -1}, 5},
-    {{2, 3}, {-3, 0}, 11},
-    {{1, 5}, {-5}, 1},
-    {{4, 0}, {0, 0, 0, 0}, 0},
+    {{3, 2, PRODUCT}, {0, 1, 1}, 0},
+    {{3, 2, PRODUCT}, {1, 0, -1}, 5},
+    {{3, 2, PRODUCT}, {-1, 0, -1}, 7},
+    {{3, 2, PRODUCT}, {-1, -1, 0}, 11},
+    {{3, 2, PRODUCT}, {0, 0, 2}, 12},
+    {{3, 2, PRODUCT}, {-2, 0, 0}, 17},
+    {{2, 3, PRODUCT}, {1, 2}, 0},
+    {{2, 3, PRODUCT}, {2, -1}, 5},
+    {{2, 3, PRODUCT}, {-3, 0}, 11},
+    {{1, 5, PRODUCT}, {-5}, 1},
+    {{4, 0, PRODUCT}, {0, 0, 0, 0}, 0},
+    {{3, 2, MAGNITUDE}, {0, 0, 2}, 0},
+    {{3, 2, MAGNITUDE}, {0, 0, -2}, 1},
+    {{3, 2, MAGNITUDE}, {0, -2, 0}, 7},
+    {{3, 2, MAGNITUDE}, {1, 0, 1}, 8},
+    {{3, 2, MAGNITUDE}, {1, 0, -1}, 9},
+    {{3, 2, MAGNITUDE}, {-2, 0, 0}, 17},
+    {{4, 5, MAGNITUDE}, {1, 1, -2, 1}, 126},
+    {{4, 5, MAGNITUDE}, {-1, 0, 3, -1}, 179},
+    {{4, 5, MAGNITUDE}, {-3, 0, 1, -1}, 331},
+    {{4, 0, MAGNITUDE}, {0, 0, 0, 0}, 0},
 };
 
 static const struct {
     struct shell shell;
     uint64_t answer;
 } counts[] = {
-    {{2, 3}, 12},
-    {{3, 2}, 18},
-    {{4, 0}, 1},
-    {{16, 12}, 3575055360},
-    {{16, 13}, REFUSED + 3},
-    {{0, 2}, REFUSED + 1},
-    {{17, 2}, REFUSED + 1},
-    {{3, 33}, REFUSED + 2},
+    {{2, 3, PRODUCT}, 12},
+    {{3, 2, PRODUCT}, 18},
+    {{4, 0, PRODUCT}, 1},
+    {{16, 12, PRODUCT}, 3575055360},
+    {{16, 13, PRODUCT}, REFUSED + 3},
+    {{0, 2, PRODUCT}, REFUSED + 1},
+    {{17, 2, PRODUCT}, REFUSED + 1},
+    {{3, 33, PRODUCT}, REFUSED + 2},
 };
 
-/* Indices of length 3 and radius 2 that are past the end, and their distances. */
+/* Indices of length 3 and radius 2 that are past the end in both enumerations, and their distances. */
 static const struct {
     uint64_t index;
     uint64_t distance;
@@ -53,9 +63,11 @@ void compare_examples(void)
     }
     for (uint64_t i = 0; i < ENTRIES(counts); i++)
         expect_count(counts[i].shell, counts[i].answer);
-    for (uint64_t i = 0; i < ENTRIES(past_end); i++) {
-        own_figure("distance of an example", distance_of((struct shell){3, 2}, past_end[i].index), past_end[i].distance);
-        expect_point_refused((struct shell){3, 2}, past_end[i].index, 3, 6);
-    }
+    for (uint64_t i = 0; i < ENTRIES(past_end); i++)
+        for (uint64_t selector = 0; selector < SELECTORS; selector++) {
+            const struct shell shell = {3, 2, selector};
+            own_figure("distance of an example", distance_of(shell, past_end[i].index), past_end[i].distance);
+            expect_point_refused(shell, past_end[i].index, 3, 6);
+        }
     printf("examples: %lu points, %lu counts, %lu distances\n", ENTRIES(points), ENTRIES(counts), ENTRIES(past_end));
 }

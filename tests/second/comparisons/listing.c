@@ -1,7 +1,7 @@
 /* Every point of the small shells, made one after the other in the order of docs/RULES.md, "The product index", and
-   numbered by counting. No formula for a count is used here.
+   then in that of "The magnitude index", and numbered by counting. No formula for a count is used here.
 
-   The order, read from that page:
+   The order of the product enumeration, read from that page:
    - Ranges run from s = m down to 1, so the points with the most nonzero coordinates come first.
    - Index = start + (pattern x S + shape) x 2^s + sign: the pattern changes slowest, then the shape, then the signs.
    - Pattern: a nonzero first coordinate adds D(s,l-1), which is how many patterns have a zero there. So those come
@@ -13,6 +13,10 @@
      slowest.
 
    Length 3, radius 2, from 0: (0,1,1) (0,1,-1) (0,-1,1) (0,-1,-1) (1,0,1) .. (-1,-1,0) (0,0,2) (0,0,-2) (0,2,0) ..
+   (-2,0,0).
+
+   In the magnitude enumeration the values of a coordinate run 0, 1, -1, 2, -2 and so on, the first coordinate slowest.
+   Length 3, radius 2, from 0: (0,0,2) (0,0,-2) (0,1,1) (0,1,-1) (0,-1,1) .. (0,-2,0) (1,0,1) (1,0,-1) (1,1,0) ..
    (-2,0,0). */
 
 #include "comparisons.h"
@@ -32,7 +36,7 @@ struct listing {
     uint64_t next;
 };
 
-static uint64_t shells_listed, points_listed;
+static uint64_t shells_listed[SELECTORS], points_listed[SELECTORS];
 
 /* The point is whole: its number is its index. The program's own ranking, and its way back, are held to
    the listing too. */
@@ -94,25 +98,52 @@ static void list_patterns(struct listing *to, uint64_t at, uint64_t nonzero)
     }
 }
 
+static void list_by_product(struct listing *to)
+{
+    if (to->shell.radius == 0)
+        list_point(to);
+    for (to->s = most_nonzero(to->shell); to->s > 0; to->s--)
+        list_patterns(to, 0, to->s);
+}
+
+/* Values of the coordinates from `at` on, whose magnitudes have the sum `sum`, like the wheels of a counter: the last
+   one turns fastest, and a wheel turns on once those behind it are through. */
+static void list_values(struct listing *to, uint64_t at, uint64_t sum)
+{
+    if (at == to->shell.length) {
+        if (sum == 0)
+            list_point(to);
+        return;
+    }
+    for (int32_t value = 0; magnitude(value) <= sum; value = value > 0 ? -value : 1 - value) {
+        to->point[at] = value;
+        list_values(to, at + 1, sum - magnitude(value));
+    }
+}
+
+static void list_by_magnitude(struct listing *to)
+{
+    list_values(to, 0, to->shell.radius);
+}
+
 static void list_shell(struct shell shell)
 {
     struct listing to = {.shell = shell};
     if (points_of(shell) > MOST_LISTED)
         return;
-    if (shell.radius == 0)
-        list_point(&to);
-    for (to.s = most_nonzero(shell); to.s > 0; to.s--)
-        list_patterns(&to, 0, to.s);
+    (shell.selector == MAGNITUDE ? list_by_magnitude : list_by_product)(&to);
     if (to.next != points_of(shell))
         own_error("it lists another number of points than N", shell);
-    shells_listed++;
-    points_listed += to.next;
+    shells_listed[shell.selector]++;
+    points_listed[shell.selector] += to.next;
 }
 
 void compare_listing(void)
 {
-    for_each_shell(list_shell);
-    own_figure("shells with N at most 100,000", shells_listed, 224);
-    own_figure("points of these", points_listed, 2067158);
-    printf("listed: %lu shells, %lu points\n", shells_listed, points_listed);
+    for_each_numbering(list_shell);
+    for (uint64_t selector = 0; selector < SELECTORS; selector++) {
+        own_figure("shells with N at most 100,000", shells_listed[selector], 224);
+        own_figure("points of these", points_listed[selector], 2067158);
+    }
+    printf("listed: %lu shells, %lu points, in each of %d enumerations\n", shells_listed[0], points_listed[0], SELECTORS);
 }

@@ -6,10 +6,10 @@
 
 #include <stdio.h>
 
-/* 10 is a reason of an unreadable place: no call refuses with it. */
+/* 10 and 14 are reasons of an unreadable place: no call refuses with them. */
 static void print_compared(void)
 {
-    const int refusals[] = {1, 2, 3, 4, 5, 6, 7, 8, 9, 11, 12, 13};
+    const int refusals[] = {1, 2, 3, 4, 5, 6, 7, 8, 9, 11, 12, 13, 20};
     printf("refused:");
     for (uint64_t i = 0; i < ENTRIES(refusals); i++)
         printf("%s %lu with %d", i > 0 ? "," : "", compared.refusals[refusals[i]], refusals[i]);
@@ -23,13 +23,14 @@ static void print_compared(void)
 int main(void)
 {
     count_points();
-    count_patterns_and_shapes();
+    count_for_ranking();
     compare_examples();
     compare_listing();
     compare_ends();
     compare_random();
     compare_refusals();
     compare_sums();
+    require_refusals();
     compare_tables();
     compare_vectors();
     compare_checks();

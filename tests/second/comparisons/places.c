@@ -1,5 +1,6 @@
-/* Reading places and single coefficients: in every usable shell the codewords beside which the answer changes and
-   others, and any cells, places, lengths and coordinates by chance. See docs/RULES.md, "The page". */
+/* Reading places and single coefficients: in every usable shell and in both enumerations the codewords beside which the
+   answer changes and others; and any cells, places, lengths and coordinates by chance. See docs/RULES.md, "The
+   page". */
 
 #include "../draws/page_draws.h"
 #include "comparisons.h"
@@ -85,13 +86,13 @@ static void compare_question(const struct table *table)
 
 void compare_places(void)
 {
-    for_each_usable_shell(compare_shell);
+    for_each_numbering(compare_shell);
     for (int i = 0; i < TABLES; i++) {
         const struct table table = page_table_by_chance();
         page_by_chance(&page, &table, 8);
         for (int j = 0; j < QUESTIONS_OF_TABLE; j++)
             compare_question(&table);
     }
-    printf("places: 407 shells in %d tables each, %d questions by chance on %d tables\n", TABLES_OF_SHELL,
+    printf("places: 407 shells in %d tables of each selector, %d questions by chance on %d tables\n", TABLES_OF_SHELL,
            TABLES * QUESTIONS_OF_TABLE, TABLES);
 }

@@ -1,6 +1,6 @@
-/* Indices and points by chance in every usable shell: the point of an index lies on the shell and has that index,
-   a point is the point of its index, and both agree with the ranking of rules/ranking.c; docs/RULES.md, "The
-   product index". */
+/* Indices and points by chance in every usable shell and in both enumerations: the point of an index lies on the shell
+   and has that index, a point is the point of its index, and both agree with the ranking of rules/ranking.c;
+   docs/RULES.md, "The product index" and "The magnitude index". */
 
 #include "comparisons.h"
 
@@ -9,14 +9,6 @@
 enum { INDICES = 10000, POINTS = 2000 };
 
 static uint64_t indices, points;
-
-static int is_on_shell(struct shell shell, const int32_t *point)
-{
-    uint64_t sum = 0;
-    for (uint64_t i = 0; i < shell.length; i++)
-        sum += magnitude(point[i]);
-    return sum == shell.radius;
-}
 
 static void compare_index(struct shell shell, uint64_t index)
 {
@@ -51,6 +43,6 @@ static void compare_shell(struct shell shell)
 
 void compare_random(void)
 {
-    for_each_usable_shell(compare_shell);
+    for_each_numbering(compare_shell);
     printf("random: %lu indices, %lu points\n", indices, points);
 }

@@ -1,5 +1,5 @@
-/* Refusals 1, 2, 3, 4 and 6 of count, index and point, each together with everything that would be refused later, so
-   that the order of checks is compared too; docs/RULES.md, "Refusal numbers" and "Order of checks". Refusals 5 and 7
+/* Refusals 20, 1, 2, 3, 4 and 6 of count, index and point, each together with everything that would be refused later,
+   so that the order of checks is compared too; docs/RULES.md, "Refusal numbers" and "Order of checks". Refusals 5 and 7
    have files of their own, sums.c and tables.c; those of quantize are in checks.c, and those of the page in
    page_checks.c. */
 
@@ -8,7 +8,9 @@
 static const uint64_t bad_lengths[] = {0, 17, 18, TWO_TO_32, TWO_TO_32 + 1, TWO_TO_32 + 16, TWO_TO_63, TWO_TO_63 + 3, UINT64_MAX};
 static const uint64_t bad_radii[] = {33, 34, TWO_TO_32, TWO_TO_32 + 1, TWO_TO_32 + 32, TWO_TO_63, TWO_TO_63 + 2, UINT64_MAX};
 
-static uint64_t unusable;
+static const uint64_t bad_selectors[] = {2, 3, 255, 256, TWO_TO_32, TWO_TO_32 + 1, TWO_TO_63, UINT64_MAX};
+
+static uint64_t unusable, unselected;
 
 /* One lent length: index with magnitudes that sum to k, with zeros and with the lowest values, point with all
    kinds of indices. */
@@ -26,22 +28,40 @@ static void refuse_buffer(struct shell shell, uint64_t lent, uint32_t refusal)
         expect_point_refused(shell, indices[i], lent, refusal);
 }
 
-/* The three calls, whatever the buffer. */
-static void refuse_shell(struct shell shell, uint32_t refusal)
+/* Index and point, whatever the buffer. */
+static void refuse_numbering(struct shell shell, uint32_t refusal)
 {
-    expect_count(shell, REFUSED + refusal);
     expect_refused_without_buffer(shell, 0, refusal);
     for (uint64_t lent = 0; lent <= MOST_LENGTH + 2; lent++)
         refuse_buffer(shell, lent, refusal);
+}
+
+/* Every selector that is above 1, whatever the shell. */
+static void refuse_selectors(struct shell shell)
+{
+    for (uint64_t i = 0; i < ENTRIES(bad_selectors); i++) {
+        shell.selector = bad_selectors[i];
+        refuse_numbering(shell, 20);
+        unselected++;
+    }
+}
+
+/* The three calls, index and point with each selector, good and bad. */
+static void refuse_shell(struct shell shell, uint32_t refusal)
+{
+    expect_count(shell, REFUSED + refusal);
+    for (shell.selector = 0; shell.selector < SELECTORS; shell.selector++)
+        refuse_numbering(shell, refusal);
+    refuse_selectors(shell);
 }
 
 static void refuse_lengths(void)
 {
     for (uint64_t i = 0; i < ENTRIES(bad_lengths); i++) {
         for (uint64_t radius = 0; radius <= MOST_RADIUS; radius++)
-            refuse_shell((struct shell){bad_lengths[i], radius}, 1);
+            refuse_shell((struct shell){bad_lengths[i], radius, PRODUCT}, 1);
         for (uint64_t j = 0; j < ENTRIES(bad_radii); j++)
-            refuse_shell((struct shell){bad_lengths[i], bad_radii[j]}, 1);
+            refuse_shell((struct shell){bad_lengths[i], bad_radii[j], PRODUCT}, 1);
     }
 }
 
@@ -49,12 +69,15 @@ static void refuse_radii(void)
 {
     for (uint64_t length = 1; length <= MOST_LENGTH; length++)
         for (uint64_t i = 0; i < ENTRIES(bad_radii); i++)
-            refuse_shell((struct shell){length, bad_radii[i]}, 2);
+            refuse_shell((struct shell){length, bad_radii[i], PRODUCT}, 2);
 }
 
-static void refuse_unusable(struct shell shell)
+/* A usable shell is refused for the selector alone. */
+static void refuse_good_length_and_radius(struct shell shell)
 {
-    if (!is_usable(shell)) {
+    if (is_usable(shell)) {
+        refuse_selectors(shell);
+    } else {
         refuse_shell(shell, 3);
         unusable++;
     }
@@ -95,8 +118,9 @@ void compare_refusals(void)
 {
     refuse_lengths();
     refuse_radii();
-    for_each_shell(refuse_unusable);
+    for_each_shell(refuse_good_length_and_radius);
     own_figure("shells that are not usable", unusable, 121);
-    for_each_usable_shell(refuse_wrong_buffers);
-    for_each_usable_shell(refuse_indices);
+    for_each_numbering(refuse_wrong_buffers);
+    for_each_numbering(refuse_indices);
+    own_figure("lengths and radii, good and bad, with selectors above 1", unselected, ENTRIES(bad_selectors) * 1025);
 }

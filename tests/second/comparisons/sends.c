@@ -14,24 +14,29 @@ enum { LENGTH_PAGES = 20, MOST_SIZE = 600 };
 
 static struct sending right, wrong;
 
-/* Two places of the whole case and one of a row of length 2: (1.5, 0, -0.75), (0, 0, -1.5) and (1, -1). They hold the
-   program's own rules to docs/RULES.md too. */
-static void compare_case(void)
+/* Two places of the whole case and one of a row of length 2: (1.5, 0, -0.75), (0, 0, -1.5) and (1, -1), with rows of
+   that selector. They hold the program's own rules to docs/RULES.md too. */
+static void compare_case(uint8_t selector)
 {
     static struct sent sent;
     static const uint8_t row[ROW_SIZE] = {2, 2, 0, 4, [AT_STEP] = 0, 77, [AT_PLACES] = 0, 1};
     static const uint32_t run[] = {0x3fc00000, 0, 0xbf400000, 0, 0, 0xbfc00000, BITS_OF_1, MINUS(BITS_OF_1)};
-    static const uint8_t records[] = {0, 0, 0, 1, 0, 0, 0, 5, 0, 1, 0, 1, 0, 0, 0, 13, 0, 2, 1, 1, 0, 0, 0, 5};
+    static const uint8_t records[SELECTORS][3 * RECORD_SIZE] = {
+        [PRODUCT] = {0, 0, 0, 1, 0, 0, 0, 5, 0, 1, 0, 1, 0, 0, 0, 13, 0, 2, 1, 1, 0, 0, 0, 5},
+        [MAGNITUDE] = {0, 0, 0, 1, 0, 0, 0, 9, 0, 1, 0, 1, 0, 0, 0, 1, 0, 2, 1, 1, 0, 0, 0, 7},
+    };
     right.table = pairing_bin;
     for (int i = 0; i < ROW_SIZE; i++)
         right.table.bytes[right.table.size++] = row[i];
+    for (uint64_t at = AT_SELECTOR; at < right.table.size; at += ROW_SIZE)
+        right.table.bytes[at] = selector;
     for (uint64_t i = 0; i < ENTRIES(run); i++)
         right.run[i] = run[i];
     make_right(&right);
     own_figure("length of the run of the case", right.run_length, ENTRIES(run));
-    own_figure("length of the buffer of the case", right.buffer_length, sizeof records);
+    own_figure("length of the buffer of the case", right.buffer_length, sizeof records[selector]);
     send_page(&right, &sent);
-    own_figure("records of the case that differ", memcmp(sent.records, records, sizeof records) != 0, 0);
+    own_figure("records of the case that differ", memcmp(sent.records, records[selector], sizeof records[selector]) != 0, 0);
     compare_send_received(&right);
 }
 
@@ -125,7 +130,8 @@ static void compare_lengths(void)
 void compare_sends(void)
 {
     chance_from(SEED);
-    compare_case();
+    compare_case(PRODUCT);
+    compare_case(MAGNITUDE);
     compare_pages_by_chance();
     compare_sets();
     compare_bad_tables();

@@ -1,5 +1,6 @@
-/* Refusal 5, in every usable shell: magnitudes that do not sum to k, among them those that would where a sum wraps;
-   docs/RULES.md, "Refusal numbers", and "Points and counts": any coordinate may be the lowest value there is. */
+/* Refusal 5, in every usable shell and in both enumerations: magnitudes that do not sum to k, among them those that
+   would where a sum wraps; docs/RULES.md, "Refusal numbers", and "Points and counts": any coordinate may be the lowest
+   value there is. */
 
 #include "comparisons.h"
 
@@ -98,5 +99,5 @@ static void refuse_sums(struct shell shell)
 
 void compare_sums(void)
 {
-    for_each_usable_shell(refuse_sums);
+    for_each_numbering(refuse_sums);
 }

@@ -9,7 +9,7 @@
 enum { MOST_SIZE = 600, RUNS = 8, CHANGED_TABLES = 4, CHANCE_TABLES = 1000000 };
 
 /* What must have occurred among the tables by chance: each fault alone in a table, by its own number, and these. */
-enum { GOOD = FAULTS, TOTAL_OF_4096, TOTAL_OF_4097, ROW_ABOVE_0, LAST_ROW, MORE_BAD_ROWS, SORTS };
+enum { GOOD = FAULTS, BOTH_SELECTORS, TOTAL_OF_4096, TOTAL_OF_4097, ROW_ABOVE_0, LAST_ROW, MORE_BAD_ROWS, SORTS };
 
 static const char *const sorts[SORTS] = {
     [NO_BYTES] = "of no bytes",
@@ -24,10 +24,11 @@ static const char *const sorts[SORTS] = {
     [BEYOND_NOT_0] = "with only a position beyond the number that is not 0",
     [NO_STEP] = "with only a step of 0",
     [NO_PLACES] = "with only a row of no places",
-    [BYTE_14_NOT_0] = "with only a byte 14 that is not 0",
+    [BAD_SELECTOR] = "with only a selector above 1",
     [BYTE_15_NOT_0] = "with only a byte 15 that is not 0",
     [TOTAL_PASSED] = "with only a total above 4,096",
     [GOOD] = "that is good",
+    [BOTH_SELECTORS] = "that is good with rows of both selectors",
     [TOTAL_OF_4096] = "that is good with 4,096 places",
     [TOTAL_OF_4097] = "that is bad only because the total passes 4,096 by 1",
     [ROW_ABOVE_0] = "whose first bad row is above 0",
@@ -126,6 +127,7 @@ static void note_sorts(const struct table *table, struct judgment judgment)
     for (int fault = 0; fault < FAULTS; fault++)
         occurred[fault] += judgment.faults == (uint32_t)1 << fault && judgment.bad_rows <= 1;
     occurred[GOOD] += judgment.faults == 0;
+    occurred[BOTH_SELECTORS] += judgment.faults == 0 && do_rows_differ(table, AT_SELECTOR);
     occurred[TOTAL_OF_4096] += judgment.faults == 0 && judgment.places == MOST_PLACES;
     occurred[TOTAL_OF_4097] += is_total_alone && judgment.places == MOST_PLACES + 1;
     occurred[ROW_ABOVE_0] += judgment.row > 0;
@@ -157,7 +159,7 @@ void compare_tables(void)
     own_figure("usable shells of a radius above 0", compare_two_bytes(AT_LENGTH, AT_RADII + 1), 407 - 16);
     own_figure("steps", compare_two_bytes(AT_STEP, AT_STEP + 1), 65535);
     own_figure("numbers of places of a table", compare_two_bytes(AT_PLACES, AT_PLACES + 1), MOST_PLACES);
-    own_figure("values of bytes 14 and 15", compare_two_bytes(AT_14, AT_15), 1);
+    own_figure("selectors, and values of byte 15", compare_two_bytes(AT_SELECTOR, AT_15), SELECTORS);
     compare_tables_by_chance();
     printf("tables: %lu compared, %lu good, %lu refused\n", good + refused, good, refused);
 }

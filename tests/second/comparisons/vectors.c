@@ -24,6 +24,7 @@ enum {
 /* Each row has one place. */
 static const uint8_t telling[ROW_SIZE] = {1, 8, 0, 1, 2, 3, 4, 5, 6, 7, 0, 1, 0, 1}; /* step 1: the radius number is a, up to 7 */
 static const uint8_t whole_case[ROW_SIZE] = {3, 2, 0, 2, [AT_STEP] = 1, 0, 0, 1};
+static const uint8_t by_magnitude[ROW_SIZE] = {3, 2, 0, 2, [AT_STEP] = 1, 0, 0, 1, MAGNITUDE};
 static const uint8_t radius_1[ROW_SIZE] = {2, 2, 0, 1, [AT_STEP] = 1, 0, 0, 1};
 static const uint8_t radius_2[ROW_SIZE] = {2, 2, 0, 2, [AT_STEP] = 1, 0, 0, 1};
 
@@ -50,7 +51,10 @@ static const struct {
     {whole_case, {BITS_OF_1, 0, 0}, {.record = {0}}},
     {whole_case, {BITS_OF_1_4, MINUS(BITS_OF_1_2), MINUS(BITS_OF_1_4)}, {.record = {0}}},
     {whole_case, {MINUS(BITS_OF_257_256), 0, 0}, {.record = {[3] = 1, [7] = 17}}}, /* sum 257: (-2,0,0) */
-    {radius_1, {BITS_OF_1, BITS_OF_1}, {.record = {[3] = 1, [7] = 2}}},            /* (1,0) */
+    {by_magnitude, {BITS_OF_3_2, 0, MINUS(BITS_OF_3_4)}, {.record = {[3] = 1, [7] = 9}}}, /* (1,0,-1) */
+    {by_magnitude, {0, BITS_OF_257_256, 0}, {.record = {[3] = 1, [7] = 6}}},              /* (0,2,0) */
+    {by_magnitude, {0, BITS_OF_1, 0}, {.record = {0}}},
+    {radius_1, {BITS_OF_1, BITS_OF_1}, {.record = {[3] = 1, [7] = 2}}}, /* (1,0) */
 };
 
 uint32_t compare_vector(const struct vector *vector)

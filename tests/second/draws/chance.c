@@ -79,6 +79,7 @@ static void row_by_chance(uint8_t *row)
     row[AT_NUMBER_OF_RADII] = (uint8_t)(1 + chance_below(MOST_RADII));
     radii_by_chance(row[AT_LENGTH], row[AT_NUMBER_OF_RADII], row + AT_RADII);
     set_two_bytes(row + AT_STEP, chance_below(2) ? steps[chance_below(ENTRIES(steps))] : 1 + chance_below(65535));
+    row[AT_SELECTOR] = (uint8_t)chance_below(SELECTORS);
 }
 
 /* Good rows of at most `most` places each, often 1, 255 or 256 where `most` allows all of these. */
@@ -103,6 +104,23 @@ void aim_total(struct table *table, uint64_t number, uint64_t total)
         before += two_bytes(row + AT_PLACES);
     if (before < total && total - before <= 65535)
         set_two_bytes(aimed + AT_PLACES, total - before);
+}
+
+/* Gives a row a selector above 1, often 2 or 255. */
+void spoil_selector(struct table *table)
+{
+    const uint64_t row = chance_below(table->size / ROW_SIZE);
+    const uint64_t selectors[] = {SELECTORS, 255, SELECTORS + chance_below(256 - SELECTORS)};
+    table->bytes[row * ROW_SIZE + AT_SELECTOR] = (uint8_t)selectors[chance_below(ENTRIES(selectors))];
+}
+
+/* Makes a good table bad, by the selector or by byte 15 of a row. */
+void spoil_table(struct table *table)
+{
+    if (chance_below(2))
+        spoil_selector(table);
+    else
+        table->bytes[chance_below(table->size / ROW_SIZE) * ROW_SIZE + AT_15] = 1;
 }
 
 /* One byte, changed to the value above or below, or to any. */

@@ -149,7 +149,7 @@ static uint32_t sign_bit_by_chance(void)
 static void aim(const uint8_t *row, uint32_t *coefficients)
 {
     const uint64_t number = chance_below(row[AT_NUMBER_OF_RADII]), strays = chance_below(8) == 0;
-    struct parts parts = {.shell = {row[AT_LENGTH], row[AT_RADII + number]}, .sum = sum_by_chance(row, number)};
+    struct parts parts = {.shell = shell_of(row, number), .sum = sum_by_chance(row, number)};
     for (part_by_chance(&parts); is_too_large(&parts); part_by_chance(&parts))
         parts.sum /= 2;
     for (uint64_t i = 0; i < parts.shell.length; i++) {

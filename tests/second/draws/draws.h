@@ -13,6 +13,8 @@ void sign_by_chance(const uint64_t *magnitudes, uint64_t length, int32_t *point)
 void point_by_chance(struct shell shell, int32_t *point);
 struct table rows_by_chance(uint64_t rows, uint64_t most);
 void aim_total(struct table *table, uint64_t number, uint64_t total);
+void spoil_selector(struct table *table);
+void spoil_table(struct table *table);
 struct table table_by_chance(void);
 struct table good_table_by_chance(void);
 

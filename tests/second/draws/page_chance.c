@@ -41,6 +41,8 @@ static void give_fault(struct table *table, enum fault fault)
         set_two_bytes(row + AT_STEP, 0);
     if (fault == NO_PLACES)
         set_two_bytes(row + AT_PLACES, 0);
+    if (fault == BAD_SELECTOR && table->size >= ROW_SIZE)
+        spoil_selector(table);
 }
 
 /* A table whose size, or whose first bad row, has that fault, and maybe others. */
@@ -54,14 +56,15 @@ struct table bad_table_by_chance(enum fault fault)
     return table;
 }
 
-/* Gives a row the length of a usable shell, and other radii: that of the shell, and more by chance, for
-   which room is kept. */
+/* Gives a row the length and the selector of a usable shell, and other radii: that of the shell, and more by chance,
+   for which room is kept. */
 void plant_shell(struct table *table, uint64_t number, struct shell shell)
 {
     uint8_t *row = table->bytes + number * ROW_SIZE;
     uint64_t have = 1;
     row[AT_LENGTH] = (uint8_t)shell.length;
-    for (uint64_t radius = 1; radius <= MOST_RADIUS && is_usable((struct shell){shell.length, radius}); radius++) {
+    row[AT_SELECTOR] = (uint8_t)shell.selector;
+    for (uint64_t radius = 1; radius <= MOST_RADIUS && is_usable((struct shell){shell.length, radius, PRODUCT}); radius++) {
         const uint64_t kept = radius < shell.radius;
         if (radius == shell.radius || (have + kept < MOST_RADII && chance_below(4) == 0))
             row[AT_RADII + have++] = (uint8_t)radius;
@@ -105,8 +108,7 @@ void record_by_chance(const struct table *table, uint64_t place, uint8_t *record
 {
     const uint8_t *fields = row_at(table, place);
     const uint64_t number = chance_below(fields[AT_NUMBER_OF_RADII]);
-    const struct shell shell = {fields[AT_LENGTH], fields[AT_RADII + number]};
-    write_record(record, place, row_of(table, place), number, codeword_by_chance(shell));
+    write_record(record, place, row_of(table, place), number, codeword_by_chance(shell_of(fields, number)));
     if (chance_below(8) == 0)
         spoil_radius_number(fields, record);
 }

@@ -40,7 +40,7 @@ static struct case_of_page with_faults(const struct case_of_page *right, struct 
         set_two_bytes(wrong.arrival.bytes + AT_PLACE, place_past_end(page->places));
     }
     if (set & WRONG_TABLE)
-        wrong.table.bytes[chance_below(wrong.table.size / ROW_SIZE) * ROW_SIZE + AT_15] = 1;
+        spoil_table(&wrong.table);
     return wrong;
 }
 

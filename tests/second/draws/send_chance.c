@@ -84,5 +84,5 @@ void make_wrong(struct sending *to, int set)
     to->run_length = set & WRONG_RUN ? run_length : to->run_length;
     to->buffer_length = set & WRONG_BUFFER ? buffer_length : to->buffer_length;
     if (set & WRONG_TABLE)
-        to->table.bytes[chance_below(to->table.size / ROW_SIZE) * ROW_SIZE + AT_15] = 1;
+        spoil_table(&to->table);
 }

@@ -154,6 +154,16 @@ static void note_coordinate(const struct question *question, uint64_t length)
     note_page(COEFFICIENT, HELD_13, cell[AT_STATE] == STATE_HELD && !is_at_fault(question->table, question->place, cell));
 }
 
+/* A place that is answered with a point: whether it tells the enumeration. */
+static void note_shown(enum page_call call, struct reading reading)
+{
+    int32_t point[MOST_LENGTH];
+    if (reading.word != SOUND && reading.word != MENDED)
+        return;
+    point_of(reading.shell, reading.index, point);
+    note_page(call, reading.shell.selector == MAGNITUDE ? MAGNITUDE_SHOWN : PRODUCT_SHOWN, is_index_telling(reading.shell, point));
+}
+
 /* Where the place is not in the table, a length above 16 is no length of an output, and a coordinate above 15
    none of a point. */
 void note_reading(enum page_call call, const struct question *question, struct list expected)
@@ -176,6 +186,8 @@ void note_reading(enum page_call call, const struct question *question, struct l
     note_page(call, BOTH_LENGTHS, is_other_length && !is_outside && is_wrong_page(page));
     if (refusal == 13)
         note_coordinate(question, length);
+    if (refusal == 0)
+        note_shown(call, read_cell(question->table, place, cell_at(page, place)));
     if (refusal == 0 || refusal == 12) {
         note_cell(call, question->table, place, cell_at(page, place));
         note_where(call, question->table, page, place, expected);

@@ -7,7 +7,7 @@
 
 #include <stdio.h>
 
-enum { LEAST = 3000, LEAST_OF_SHELL = 300 };
+enum { LEAST = 3000, LEAST_OF_SHELL = 150 };
 
 static const char *const names[KINDS] = {
     [TURNED_HALF_DOWN] = "with another record if halves that are rounded down were rounded up",
@@ -49,6 +49,8 @@ static const char *const names[KINDS] = {
     [STEP_65535] = "with step 65,535",
     [LARGEST_RADIUS] = "with the largest usable radius of the length",
     [CODEWORD_PAST_2_24] = "with a codeword of 2^24 or more",
+    [PRODUCT_TOLD] = "of selector 0 whose codeword would be another one with selector 1",
+    [MAGNITUDE_TOLD] = "of selector 1 whose codeword would be another one with selector 0",
     [QUIET_NAN] = "refused for a quiet NaN",
     [SIGNALLING_NAN] = "refused for a signalling NaN",
     [POSITIVE_INFINITY] = "refused for positive infinity",
@@ -64,7 +66,12 @@ static const char *const names[KINDS] = {
 };
 
 static uint64_t kinds[KINDS], lengths[MOST_LENGTH + 1], numbers[MOST_RADII], rows[MOST_ROWS], faulty[MOST_LENGTH];
-static uint64_t shells[MOST_LENGTH + 1][MOST_RADIUS + 1], refusals[MOST_REFUSAL + 1];
+static uint64_t shells[SELECTORS][MOST_LENGTH + 1][MOST_RADIUS + 1], refusals[MOST_REFUSAL + 1];
+
+static uint64_t *seen(struct shell shell)
+{
+    return &shells[shell.selector][shell.length][shell.radius];
+}
 
 void note_if(int is_there, enum kind kind)
 {
@@ -76,7 +83,7 @@ static void note_row(const struct vector *vector, const struct quantizing *made)
 {
     const uint64_t last = vector->table.size / ROW_SIZE - 1, place = vector->place;
     const uint64_t step = two_bytes(vector->table.bytes + made->row * ROW_SIZE + AT_STEP);
-    const struct shell wider = {made->shell.length, made->shell.radius + 1};
+    const struct shell wider = {made->shell.length, made->shell.radius + 1, PRODUCT};
     note_if(place == 0, PLACE_0);
     note_if(place > 0 && row_of(&vector->table, place - 1) != made->row, FIRST_OF_ROW);
     note_if(made->row < last && row_of(&vector->table, place + 1) != made->row, LAST_OF_ROW);
@@ -88,10 +95,11 @@ static void note_row(const struct vector *vector, const struct quantizing *made)
     note_if(step == 65535, STEP_65535);
     note_if(wider.radius > MOST_RADIUS || !is_usable(wider), LARGEST_RADIUS);
     note_if(made->answer.record[4] > 0, CODEWORD_PAST_2_24);
+    note_if(is_index_telling(made->shell, made->point), made->shell.selector == MAGNITUDE ? MAGNITUDE_TOLD : PRODUCT_TOLD);
     lengths[made->shell.length]++;
     numbers[made->number]++;
     rows[made->row]++;
-    shells[made->shell.length][made->shell.radius]++;
+    ++*seen(made->shell);
 }
 
 /* Refusal 11: which coefficient was the first one, and which numbers there are behind it. */
@@ -154,7 +162,7 @@ static void require_each(const uint64_t *counts, uint64_t first, uint64_t last, 
 
 static void require_vectors(struct shell shell)
 {
-    require_shell(shells[shell.length][shell.radius], LEAST_OF_SHELL, "vectors", shell);
+    require_shell(*seen(shell), LEAST_OF_SHELL, "vectors", shell);
 }
 
 /* Ends the program unless each kind was compared often enough, and remainders had to be served in a quarter
@@ -171,6 +179,7 @@ void require_kinds(void)
     require_each(refusals, 7, 8, "vectors refused with");
     require_each(refusals, 11, 11, "vectors refused with");
     require(kinds[ONE_UNIT] + kinds[MORE_UNITS], refusals[0] / 4, "vectors", "with a remainder that gets one more");
-    for_each_usable_shell(require_vectors);
-    printf("kinds: %d kinds of vectors at least %d times each, 407 shells at least %d times each\n", KINDS, LEAST, LEAST_OF_SHELL);
+    for_each_numbering(require_vectors);
+    printf("kinds: %d kinds of vectors at least %d times each, ", KINDS, LEAST);
+    printf("407 shells at least %d times with each selector\n", LEAST_OF_SHELL);
 }

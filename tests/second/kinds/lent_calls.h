@@ -1,5 +1,5 @@
-/* One comparison of point, or of a call of the page, with what is expected of it. The call is handed over, so that
-   nothing here names what is under test. */
+/* One comparison of index, of point, of quantize, or of a call of the page, with what is expected of it. The call is
+   handed over, so that nothing here names what is under test. */
 
 #ifndef SECOND_LENT_CALLS_H
 #define SECOND_LENT_CALLS_H
@@ -7,7 +7,13 @@
 #include "lent.h"
 
 /* The calls, as probe.h declares them. */
-typedef uint64_t point_call(uint64_t length, uint64_t radius, uint64_t index, int32_t *out, uint64_t out_length, uint64_t which);
+typedef uint64_t index_call(uint64_t selector, uint64_t length, uint64_t radius, const int32_t *point, uint64_t point_length);
+typedef uint64_t point_call(uint64_t selector, uint64_t length, uint64_t radius, uint64_t index, int32_t *out, uint64_t out_length,
+                            uint64_t which);
+typedef uint32_t quantize_call(const uint8_t *table, uint64_t table_length, uint64_t place, const float *coefficients,
+                               uint64_t coefficients_length, uint8_t *record, uint64_t record_length);
+typedef uint64_t quantize_value_call(const uint8_t *table, uint64_t table_length, uint64_t place, const float *coefficients,
+                                     uint64_t coefficients_length, uint8_t *record, uint64_t record_length);
 typedef uint64_t take_call(const uint8_t *table, uint64_t table_length, uint8_t *page, uint64_t page_length, const uint8_t *record,
                            uint64_t record_length, uint64_t which);
 typedef uint64_t read_call(const uint8_t *table, uint64_t table_length, const uint8_t *page, uint64_t page_length, uint64_t place,
@@ -18,9 +24,19 @@ typedef float value_call(const uint8_t *table, uint64_t table_length, const uint
                          uint64_t coordinate);
 typedef uint64_t tally_call(const uint8_t *table, uint64_t table_length, const uint8_t *page, uint64_t page_length, uint64_t which);
 
-/* lent_pointing.c: the name is what a difference is told with; nothing is said of the point where there is a refusal */
+/* lent_pointing.c: the name is what a difference is told with; an index that is expected may be REFUSED and a refusal
+   number; nothing is said of the point where there is a refusal */
+void expect_indexing(const char *name, index_call *call, struct shell shell, const int32_t *vector, uint64_t length,
+                     uint64_t expected);
 void print_pointing(const char *name, const struct pointing *asked);
 void expect_pointing(const char *name, point_call *call, const struct pointing *asked, struct list expected, const int32_t *point);
+
+/* lent_quantize.c: so is the name here; quantize has a call for the refusal, and one for the value that it names */
+struct quantize_calls {
+    quantize_call *refusal;
+    quantize_value_call *value;
+};
+void expect_quantizing(const char *name, struct quantize_calls calls, const struct vector *vector, const struct answer *expected);
 
 /* lent_calls.c: so is the name here; how many calls it took is returned. The page's own copy is what the page must
    hold after the call. */

@@ -49,6 +49,8 @@ static const struct {
     [DISTANCE_PAST_2_24] = {RK, "with a mended cell and a distance of 2^24 or more"},
     [POWER_SOUND] = {TRKYS, "with codeword N - 1 and N a power of two above 1"},
     [POWER_14] = {TRKYS, "with codeword N and N a power of two above 1"},
+    [PRODUCT_SHOWN] = {RK, "of selector 0 with a point that would be another one with selector 1"},
+    [MAGNITUDE_SHOWN] = {RK, "of selector 1 with a point that would be another one with selector 0"},
     [EMPTY_ZEROS] = {TRKY, "with an empty cell of zeros"},
     [EMPTY_GARBAGE] = {TRKY, "with an empty cell that has other bytes"},
     [CONTESTED_ZEROS] = {TRKY, "with a contested cell of zeros"},
@@ -150,7 +152,8 @@ static const struct {
 
 static uint64_t kinds[COUNTED_FOR][PAGE_KINDS], faults[COUNTED_FOR][FAULTS], states[COUNTED_FOR][256];
 static uint64_t other_bytes[RECORD_SIZE], record_lengths[RECORD_LENGTHS], remainders[RECORD_SIZE];
-static uint64_t shells[COUNTED_FOR][READINGS][MOST_LENGTH + 1][MOST_RADIUS + 1];
+static uint64_t shells[COUNTED_FOR][READINGS][SELECTORS][MOST_LENGTH + 1][MOST_RADIUS + 1];
+static uint64_t selected[COUNTED_FOR][READINGS][SELECTORS];
 static uint64_t tallied[READINGS], tallied_past_255[READINGS], tallied_alone[READINGS];
 
 void note_page(enum page_call call, enum page_kind kind, int is_there)
@@ -188,12 +191,18 @@ void note_remainder(uint64_t length)
 /* Unreadable stands for 14 alone. */
 static uint64_t *seen(enum page_call call, enum reading_word word, struct shell shell)
 {
-    return &shells[call][word][shell.length][shell.radius];
+    return &shells[call][word][shell.selector][shell.length][shell.radius];
 }
 
 void note_shell(enum page_call call, enum reading_word word, struct shell shell)
 {
     ++*seen(call, word, shell);
+}
+
+/* A place of a row of that selector, and its answer. */
+void note_selector(enum page_call call, uint64_t selector, enum reading_word word)
+{
+    selected[call][word][selector]++;
 }
 
 void note_tallied(enum reading_word word, uint64_t counted, uint64_t places)
@@ -203,7 +212,8 @@ void note_tallied(enum reading_word word, uint64_t counted, uint64_t places)
     tallied_alone[word] += counted == places && places > 1;
 }
 
-/* Every usable shell is read sound, mended where N is no power of two, and unreadable 14 where b is below 32. */
+/* Every usable shell is read with each selector: sound, mended where N is no power of two, and unreadable 14 where b is
+   below 32. */
 static void require_readings(struct shell shell)
 {
     const uint64_t n = points_of(shell), power = least_power_from(n);
@@ -232,6 +242,14 @@ static void require_numbers(enum page_call call)
     }
 }
 
+/* Every answer in rows of each selector, for the calls that look at cells. */
+static void require_selectors(enum page_call call)
+{
+    static const char *const places[SELECTORS] = {"places of rows of selector 0 that are", "places of rows of selector 1 that are"};
+    for (int i = 0; call < PAGE_CALLS && call != COLLECT && i < READINGS * SELECTORS; i++)
+        require(selected[call][i / SELECTORS][i % SELECTORS], LEAST, places[i % SELECTORS], reading_words[i / SELECTORS]);
+}
+
 /* Ends the program unless each kind that is wanted for a call, for stored records or for those that are refused with 9
    was compared often enough. */
 void require_page_kinds_of(enum page_call call, struct required *so_far)
@@ -246,6 +264,7 @@ void require_page_kinds_of(enum page_call call, struct required *so_far)
         require_number(faults[call][fault], LEAST, "calls refused with 7 for the fault with number", fault);
     for (uint64_t state = 0; call < PAGE_CALLS && call != COLLECT && state < 256; state++)
         require_number(states[call][state], LEAST_OF_EACH, "cells of state", state);
+    require_selectors(call);
     require_numbers(call);
 }
 
@@ -254,7 +273,7 @@ void require_page_kinds(void)
     struct required so_far = {0, UINT64_MAX};
     for (enum page_call call = TAKE; call < COUNTED_FOR; call++)
         require_page_kinds_of(call, &so_far);
-    for_each_usable_shell(require_readings);
-    printf("kinds of the page: %lu at least %lu times each, 407 shells at least %d times each\n", so_far.kinds, so_far.least,
-           LEAST_OF_EACH);
+    for_each_numbering(require_readings);
+    printf("kinds of the page: %lu at least %lu times each, 407 shells at least %d times with each selector\n", so_far.kinds,
+           so_far.least, LEAST_OF_EACH);
 }

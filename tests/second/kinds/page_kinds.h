@@ -33,6 +33,8 @@ enum page_kind {
     DISTANCE_PAST_2_24,
     POWER_SOUND,
     POWER_14,
+    PRODUCT_SHOWN,
+    MAGNITUDE_SHOWN,
     /* the other cells */
     EMPTY_ZEROS,
     EMPTY_GARBAGE,
@@ -165,6 +167,7 @@ void note_other_byte(uint64_t byte);
 void note_record_length(uint64_t length);
 void note_remainder(uint64_t length);
 void note_shell(enum page_call call, enum reading_word word, struct shell shell);
+void note_selector(enum page_call call, uint64_t selector, enum reading_word word);
 void note_tallied(enum reading_word word, uint64_t counted, uint64_t places);
 void require_page_kinds_of(enum page_call call, struct required *so_far);
 void require_page_kinds(void);

@@ -38,7 +38,7 @@ static void note_held(enum page_call call, const struct table *table, uint64_t p
     const uint64_t codeword = codeword_of(record), radius_number = record[AT_RADIUS_NUMBER];
     const uint8_t *row = row_at(table, place);
     if (radius_number < row[AT_NUMBER_OF_RADII]) {
-        note_codeword(call, (struct shell){row[AT_LENGTH], row[AT_RADII + radius_number]}, codeword);
+        note_codeword(call, shell_of(row, radius_number), codeword);
         return;
     }
     note_page(call, CELL_10_AT_NUMBER, radius_number == row[AT_NUMBER_OF_RADII]);
@@ -53,7 +53,7 @@ void note_foreign(enum page_call call, const struct table *table, const uint8_t 
     const uint64_t right = row_of(table, place), number = record[AT_RADIUS_NUMBER];
     const uint8_t *fields = row_at(table, place);
     const int is_10 = number >= fields[AT_NUMBER_OF_RADII];
-    const uint64_t n = is_10 ? 0 : points_of((struct shell){fields[AT_LENGTH], fields[AT_RADII + number]});
+    const uint64_t n = is_10 ? 0 : points_of(shell_of(fields, number));
     note_page(call, OTHER_ROW_ALONE, codeword < n);
     note_page(call, OTHER_ROW_AND_10, is_10);
     note_page(call, OTHER_ROW_AND_14, !is_10 && codeword >= least_power_from(n));
@@ -71,6 +71,8 @@ void note_cell(enum page_call call, const struct table *table, uint64_t place, c
     const uint8_t *record = cell + AT_RECORD, zeros[RECORD_SIZE] = {0}, state = cell[AT_STATE];
     const int is_zeros = memcmp(record, zeros, RECORD_SIZE) == 0, is_other_row = record[AT_ROW] != row_of(table, place);
     note_state(call, state);
+    if (!is_at_fault(table, place, cell))
+        note_selector(call, row_at(table, place)[AT_SELECTOR], read_cell(table, place, cell).word);
     note_page(call, EMPTY_ZEROS, state == STATE_EMPTY && is_zeros);
     note_page(call, EMPTY_GARBAGE, state == STATE_EMPTY && !is_zeros);
     note_page(call, CONTESTED_ZEROS, state == STATE_CONTESTED && is_zeros);

@@ -31,7 +31,7 @@ void require_number(uint64_t counted, uint64_t least, const char *what, uint64_t
 void require_shell(uint64_t counted, uint64_t least, const char *what, struct shell shell)
 {
     if (counted < least) {
-        printf("the test itself, %s of length %lu and radius %lu", what, shell.length, shell.radius);
+        printf("the test itself, %s of length %lu, radius %lu and selector %lu", what, shell.length, shell.radius, shell.selector);
         too_few(counted, least);
     }
 }

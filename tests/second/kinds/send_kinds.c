@@ -15,6 +15,7 @@ static const char *const names[SEND_KINDS] = {
     [SENT_4096_PLACES] = "of 4,096 places that are sent",
     [SENT_PAST_255] = "of more than 255 places that are sent",
     [SENT_MIXED_LENGTHS] = "of rows of different lengths that are sent",
+    [SENT_MIXED_SELECTORS] = "of rows of both selectors that are sent",
     [SENT_BELOW_32768] = "that are sent with the largest coefficient below 32,768",
     [SENT_ABOVE_MINUS_32768] = "that are sent with the lowest coefficient above -32,768",
     [SEND_7_SIZE] = "refused with 7 for the size of the table",
@@ -61,6 +62,7 @@ static const char *const names[SEND_KINDS] = {
 };
 
 static uint64_t kinds[SEND_KINDS], rows[MOST_ROWS + 1], lengths[MOST_LENGTH + 1], coordinates[MOST_LENGTH], faults[FAULTS];
+static uint64_t selectors[SELECTORS];
 
 static void note_kind(enum send_kind kind, int is_there)
 {
@@ -82,10 +84,10 @@ static void note_sent(const struct sending *sending)
 {
     const uint8_t *bytes = sending->table.bytes;
     const uint64_t places = sending->buffer_length / RECORD_SIZE;
-    int is_mixed = 0, is_largest = 0, is_lowest = 0;
+    int is_largest = 0, is_lowest = 0;
     for (uint64_t at = 0; at < sending->table.size; at += ROW_SIZE) {
         lengths[bytes[at + AT_LENGTH]]++;
-        is_mixed |= bytes[at + AT_LENGTH] != bytes[AT_LENGTH];
+        selectors[bytes[at + AT_SELECTOR]]++;
     }
     for (uint64_t i = 0; i < sending->run_length; i++) {
         is_largest |= sending->run[i] == BITS_BELOW_32768;
@@ -96,7 +98,8 @@ static void note_sent(const struct sending *sending)
     note_kind(SENT_1_PLACE, places == 1);
     note_kind(SENT_4096_PLACES, places == MOST_PLACES);
     note_kind(SENT_PAST_255, places > 255);
-    note_kind(SENT_MIXED_LENGTHS, is_mixed);
+    note_kind(SENT_MIXED_LENGTHS, do_rows_differ(&sending->table, AT_LENGTH));
+    note_kind(SENT_MIXED_SELECTORS, do_rows_differ(&sending->table, AT_SELECTOR));
     note_kind(SENT_BELOW_32768, is_largest);
     note_kind(SENT_ABOVE_MINUS_32768, is_lowest);
 }
@@ -235,6 +238,8 @@ void require_file_kinds(uint64_t least)
         require_number(rows[number], least, "pages that are sent with a number of rows of", number);
     for (uint64_t length = 1; length <= MOST_LENGTH; length++)
         require_number(lengths[length], least, "rows of pages that are sent of length", length);
+    for (uint64_t selector = 0; selector < SELECTORS; selector++)
+        require_number(selectors[selector], least, "rows of pages that are sent of selector", selector);
     for (uint64_t coordinate = 0; coordinate < MOST_LENGTH; coordinate++)
         require_number(coordinates[coordinate], least, "pages refused with 11 at coordinate", coordinate);
     for (uint64_t fault = 0; fault < FAULTS; fault++)

@@ -61,7 +61,7 @@ static struct reading read_record(const struct table *table, uint64_t place, con
     const uint8_t *row = row_at(table, place);
     if (record[AT_RADIUS_NUMBER] >= row[AT_NUMBER_OF_RADII])
         return unreadable(10);
-    const struct shell shell = {row[AT_LENGTH], row[AT_RADII + record[AT_RADIUS_NUMBER]]};
+    const struct shell shell = shell_of(row, record[AT_RADIUS_NUMBER]);
     const uint64_t n = points_of(shell), power = least_power_from(n);
     if (codeword >= power)
         return unreadable(14);

@@ -37,7 +37,7 @@ static uint32_t faults_of_size(uint64_t size)
 static uint32_t faults_of_radius(const uint8_t *row, uint64_t position)
 {
     const uint8_t *radius = row + AT_RADII + position;
-    const struct shell shell = {row[AT_LENGTH], *radius};
+    const struct shell shell = shell_of(row, position);
     uint32_t faults = position == 0 ? fault_if(*radius != 0, FIRST_RADIUS_NOT_0) : fault_if(*radius <= radius[-1], RADIUS_NOT_LARGER);
     if (shell.radius > MOST_RADIUS)
         return faults | fault_if(1, RADIUS_ABOVE_32);
@@ -62,7 +62,7 @@ static uint32_t faults_of_row(const uint8_t *row)
 {
     return fault_if(!is_between(row[AT_LENGTH], 1, MOST_LENGTH), BAD_LENGTH) | faults_of_radii(row) |
            fault_if(two_bytes(row + AT_STEP) == 0, NO_STEP) | fault_if(two_bytes(row + AT_PLACES) == 0, NO_PLACES) |
-           fault_if(row[AT_14] != 0, BYTE_14_NOT_0) | fault_if(row[AT_15] != 0, BYTE_15_NOT_0);
+           fault_if(row[AT_SELECTOR] >= SELECTORS, BAD_SELECTOR) | fault_if(row[AT_15] != 0, BYTE_15_NOT_0);
 }
 
 /* "its places and those of the rows before sum to more than 4,096": that row alone, not those after it. */
@@ -103,4 +103,19 @@ uint64_t row_of(const struct table *table, uint64_t place)
 const uint8_t *row_at(const struct table *table, uint64_t place)
 {
     return table->bytes + row_of(table, place) * ROW_SIZE;
+}
+
+/* Whether not all rows have the same byte there. */
+int do_rows_differ(const struct table *table, uint64_t at)
+{
+    int is_other = 0;
+    for (uint64_t row = 0; row < table->size; row += ROW_SIZE)
+        is_other |= table->bytes[row + at] != table->bytes[at];
+    return is_other;
+}
+
+/* The shell of the row's radius with that number, and the row's selector. */
+struct shell shell_of(const uint8_t *row, uint64_t number)
+{
+    return (struct shell){row[AT_LENGTH], row[AT_RADII + number], row[AT_SELECTOR]};
 }

@@ -1,5 +1,5 @@
-/* How far an index is past the end, and what point must answer; docs/RULES.md, "The product index", "Refusal numbers"
-   and "Order of checks". */
+/* How far an index is past the end, and what index and point must answer; docs/RULES.md, "The product index", "The
+   magnitude index", "Refusal numbers" and "Order of checks". */
 
 #include "rules.h"
 
@@ -16,17 +16,44 @@ uint64_t distance_of(struct shell shell, uint64_t index)
     return index - points_of(shell);
 }
 
-/* "point | 1, 2, 3, 4, 6"; 6 names "its distance". On a refusal nothing is said of the point. */
+int is_on_shell(struct shell shell, const int32_t *vector)
+{
+    uint64_t sum = 0;
+    for (uint64_t i = 0; i < shell.length; i++)
+        sum += magnitude(vector[i]);
+    return sum == shell.radius;
+}
+
+/* The first checks of index and of point, which begin alike: "20, 1, 2, 3, 4". The length is that of the vector, or of
+   the output. */
+static uint64_t checked(struct shell shell, uint64_t length)
+{
+    if (shell.selector >= SELECTORS)
+        return 20;
+    if (shell.length < 1 || shell.length > MOST_LENGTH)
+        return 1;
+    if (shell.radius > MOST_RADIUS)
+        return 2;
+    if (!is_usable(shell))
+        return 3;
+    return length == shell.length ? 0 : 4;
+}
+
+/* "index | 20, 1, 2, 3, 4, 5". The index stands behind the 0. */
+struct list index_at(struct shell shell, const int32_t *vector, uint64_t length)
+{
+    const uint64_t refusal = checked(shell, length);
+    if (refusal)
+        return (struct list){{refusal}};
+    return is_on_shell(shell, vector) ? (struct list){{0, rank(shell, vector)}} : (struct list){{5}};
+}
+
+/* "point | 20, 1, 2, 3, 4, 6"; 6 names "its distance". On a refusal nothing is said of the point. */
 struct list point_at(const struct pointing *asked, int32_t *point)
 {
-    if (asked->shell.length < 1 || asked->shell.length > MOST_LENGTH)
-        return (struct list){{1}};
-    if (asked->shell.radius > MOST_RADIUS)
-        return (struct list){{2}};
-    if (!is_usable(asked->shell))
-        return (struct list){{3}};
-    if (asked->length != asked->shell.length)
-        return (struct list){{4}};
+    const uint64_t refusal = checked(asked->shell, asked->length);
+    if (refusal)
+        return (struct list){{refusal}};
     if (is_past_end(asked->shell, asked->index))
         return (struct list){{6, distance_of(asked->shell, asked->index)}};
     point_of(asked->shell, asked->index, point);

@@ -144,7 +144,7 @@ void quantize_magnitudes(const struct vector *vector, struct quantizing *to)
     for (uint64_t i = 0; i < row[AT_LENGTH]; i++)
         to->sum += to->magnitudes[i];
     to->number = choose_radius(row, to->sum);
-    to->shell = (struct shell){row[AT_LENGTH], row[AT_RADII + to->number]};
+    to->shell = shell_of(row, to->number);
     to->units = 0;
     for (uint64_t i = 0; i < to->shell.length; i++)
         to->point[i] = 0;

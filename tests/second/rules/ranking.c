@@ -1,70 +1,13 @@
-/* The index of a point by counting the points that come before it in the order that comparisons/listing.c explains, and
-   the point of an index by counting them off; docs/RULES.md, "The product index". Patterns are counted by going through
-   all of them, and shapes by their first magnitude: no binomial is used. */
+/* The index of a point and the point of an index, by the enumeration that the selector selects; docs/RULES.md, "The
+   product index" and "The magnitude index". */
 
 #include "rules.h"
 
-/* A pattern as a number: the first coordinate has the highest bit, 1 for nonzero. Zero comes before nonzero, the
-   first coordinate slowest, so patterns with as many ones stand in the order of these numbers, and zeros in front
-   change nothing. */
-enum { PATTERNS = 1 << MOST_LENGTH, MOST_ALIKE = 12870 /* patterns of one length and one s: length 16, s = 8 */ };
-
-static uint32_t pattern_index[PATTERNS];
-static uint32_t pattern_with[MOST_LENGTH + 1][MOST_ALIKE]; /* by s and index */
-static uint64_t patterns[MOST_LENGTH + 1][MOST_LENGTH + 1]; /* D, by s and length */
-static uint64_t shapes[MOST_LENGTH + 1][MOST_RADIUS + 1];   /* S, by s and sum */
-
-/* Goes through the patterns of all lengths: once all numbers of l bits are seen, those with s ones are counted. */
-static void count_patterns(void)
+/* N must be counted before. */
+void count_for_ranking(void)
 {
-    uint32_t seen[MOST_LENGTH + 1] = {0};
-    int length = 0;
-    for (uint32_t pattern = 0; pattern < PATTERNS; pattern++) {
-        int ones = 0;
-        for (uint32_t rest = pattern; rest; rest /= 2)
-            ones += rest % 2;
-        pattern_with[ones][seen[ones]] = pattern;
-        pattern_index[pattern] = seen[ones]++;
-        if (pattern + 1 == (uint32_t)1 << length) {
-            for (int s = 0; s <= length; s++)
-                patterns[s][length] = seen[s];
-            length++;
-        }
-    }
-}
-
-/* Shapes of s magnitudes with a sum: the first may be anything from 1 to the sum. */
-static void count_shapes(void)
-{
-    shapes[0][0] = 1;
-    for (int s = 1; s <= MOST_LENGTH; s++)
-        for (int sum = 1; sum <= MOST_RADIUS; sum++)
-            for (int first = 1; first <= sum; first++)
-                shapes[s][sum] += shapes[s - 1][sum - first];
-}
-
-void count_patterns_and_shapes(void)
-{
-    count_patterns();
-    count_shapes();
-}
-
-/* R, the points with s nonzero coordinates. */
-uint64_t range_size(struct shell shell, uint64_t s)
-{
-    return (patterns[s][shell.length] * shapes[s][shell.radius]) << s;
-}
-
-/* The shapes before this one: at each magnitude those that agree so far and have a smaller one here. */
-static uint64_t shape_index(const uint64_t *magnitudes, uint64_t s, uint64_t sum)
-{
-    uint64_t before = 0;
-    for (uint64_t i = 0; i < s; i++) {
-        for (uint64_t smaller = 1; smaller < magnitudes[i]; smaller++)
-            before += shapes[s - i - 1][sum - smaller];
-        sum -= magnitudes[i];
-    }
-    return before;
+    count_patterns_and_shapes();
+    count_by_first_values();
 }
 
 uint64_t magnitude(int32_t coordinate)
@@ -73,52 +16,23 @@ uint64_t magnitude(int32_t coordinate)
     return (uint64_t)(wide < 0 ? -wide : wide);
 }
 
-/* The point must lie on the shell. At radius 0 nothing comes before it. */
+/* The point must lie on the shell. */
 uint64_t rank(struct shell shell, const int32_t *point)
 {
-    uint64_t magnitudes[MOST_LENGTH], s = 0, sign = 0, start = 0;
-    uint32_t pattern = 0;
-    for (uint64_t i = 0; i < shell.length; i++) {
-        pattern = 2 * pattern + (point[i] != 0);
-        if (point[i] != 0) {
-            magnitudes[s++] = magnitude(point[i]);
-            sign = 2 * sign + (point[i] < 0);
-        }
-    }
-    for (uint64_t more = s + 1; more <= most_nonzero(shell); more++)
-        start += range_size(shell, more);
-    uint64_t shape = shape_index(magnitudes, s, shell.radius);
-    return start + ((pattern_index[pattern] * shapes[s][shell.radius] + shape) << s) + sign;
+    return (shell.selector == MAGNITUDE ? magnitude_rank : product_rank)(shell, point);
 }
 
-/* The magnitudes of the shape that has so many before it: each is as large as there are shapes with a smaller
-   one to count off. */
-static void magnitudes_of(uint64_t before, uint64_t *magnitudes, uint64_t s, uint64_t sum)
+/* Whether the index of a point tells which enumeration it is of: in the other one the point has another index. */
+int is_index_telling(struct shell shell, const int32_t *point)
 {
-    for (uint64_t i = 0; i < s; i++) {
-        magnitudes[i] = 1;
-        for (; before >= shapes[s - i - 1][sum - magnitudes[i]]; magnitudes[i]++)
-            before -= shapes[s - i - 1][sum - magnitudes[i]];
-        sum -= magnitudes[i];
-    }
+    const struct shell other = {shell.length, shell.radius, shell.selector == MAGNITUDE ? PRODUCT : MAGNITUDE};
+    return rank(shell, point) != rank(other, point);
 }
 
-/* The index must be below N. Ranges are counted off, then patterns, shapes and signs; the ranking must lead back. */
+/* The index must be below N; the ranking must lead back. */
 void point_of(struct shell shell, uint64_t index, int32_t *point)
 {
-    uint64_t magnitudes[MOST_LENGTH], s = most_nonzero(shell), left = index, next = 0;
-    for (; s > 0 && left >= range_size(shell, s); s--)
-        left -= range_size(shell, s);
-    const uint64_t sign = left % ((uint64_t)1 << s), pattern_and_shape = left >> s;
-    const uint32_t pattern = pattern_with[s][pattern_and_shape / shapes[s][shell.radius]];
-    magnitudes_of(pattern_and_shape % shapes[s][shell.radius], magnitudes, s, shell.radius);
-    for (uint64_t i = 0; i < shell.length; i++) {
-        const int is_nonzero = (pattern >> (shell.length - 1 - i)) % 2 != 0;
-        const int is_minus = is_nonzero && (sign >> (s - 1 - next)) % 2 != 0;
-        const int64_t wide = is_nonzero ? (int64_t)magnitudes[next] : 0;
-        point[i] = (int32_t)(is_minus ? -wide : wide);
-        next += (uint64_t)is_nonzero;
-    }
+    (shell.selector == MAGNITUDE ? magnitude_point : product_point)(shell, index, point);
     if (rank(shell, point) != index)
         own_error("its point of an index has another index", shell);
 }

@@ -9,7 +9,7 @@
 enum {
     MOST_LENGTH = 16,
     MOST_RADIUS = 32,
-    MOST_REFUSAL = 13,
+    MOST_REFUSAL = 20,
     ROW_SIZE = 16,
     MOST_ROWS = 32,
     MOST_RADII = 8,
@@ -26,11 +26,15 @@ enum {
 #define MINUS(bits) (NEGATIVE | (bits))
 #define ENTRIES(array) (sizeof(array) / sizeof *(array))
 
-/* A length and a radius, so that neither is taken for the other. Where a refusal is asked for, they may
-   be any numbers. */
+/* The selectors: which enumeration numbers the points of a shell. */
+enum { PRODUCT, MAGNITUDE, SELECTORS };
+
+/* A length and a radius, so that neither is taken for the other, and the selector. Where a refusal is asked for, they
+   may be any numbers. */
 struct shell {
     uint64_t length;
     uint64_t radius;
+    uint64_t selector; /* PRODUCT where only N is asked for */
 };
 
 /* The list that a call answers; zeros follow it. */
@@ -39,7 +43,7 @@ struct list {
 };
 
 /* Where the fields of a row of a pairing table begin. */
-enum { AT_LENGTH = 0, AT_NUMBER_OF_RADII = 1, AT_RADII = 2, AT_STEP = 10, AT_PLACES = 12, AT_14 = 14, AT_15 = 15 };
+enum { AT_LENGTH = 0, AT_NUMBER_OF_RADII = 1, AT_RADII = 2, AT_STEP = 10, AT_PLACES = 12, AT_SELECTOR = 14, AT_15 = 15 };
 
 /* Where the fields of a record begin. */
 enum { AT_PLACE = 0, AT_ROW = 2, AT_RADIUS_NUMBER = 3, AT_CODEWORD = 4 };
@@ -86,24 +90,37 @@ int is_usable(struct shell shell);
 uint64_t largest_radius(uint64_t length);
 uint64_t most_nonzero(struct shell shell);
 void for_each_shell(visit_shell *visit);
-void for_each_usable_shell(visit_shell *visit);
+void for_each_numbering(visit_shell *visit);
 _Noreturn void own_error(const char *what, struct shell shell);
 void own_figure(const char *what, uint64_t figure, uint64_t known);
 
-/* ranking.c: the index of a point, by counting the points before it, and the point of an index */
-void count_patterns_and_shapes(void);
-uint64_t range_size(struct shell shell, uint64_t s);
+/* ranking.c: the index of a point and the point of an index, by the enumeration that the selector selects */
+void count_for_ranking(void);
 uint64_t magnitude(int32_t coordinate);
 uint64_t rank(struct shell shell, const int32_t *point);
+int is_index_telling(struct shell shell, const int32_t *point);
 void point_of(struct shell shell, uint64_t index, int32_t *point);
 
-/* pointing.c: how far an index is past the end, and what point must answer */
+/* product_order.c: the same by the product enumeration */
+void count_patterns_and_shapes(void);
+uint64_t range_size(struct shell shell, uint64_t s);
+uint64_t product_rank(struct shell shell, const int32_t *point);
+void product_point(struct shell shell, uint64_t index, int32_t *point);
+
+/* magnitude_order.c: and by the magnitude enumeration */
+void count_by_first_values(void);
+uint64_t magnitude_rank(struct shell shell, const int32_t *point);
+void magnitude_point(struct shell shell, uint64_t index, int32_t *point);
+
+/* pointing.c: how far an index is past the end, and what index and point must answer */
 struct pointing {
     struct shell shell;
     uint64_t index;
     uint64_t length; /* of the output, which may be any number */
 };
 uint64_t distance_of(struct shell shell, uint64_t index);
+int is_on_shell(struct shell shell, const int32_t *vector);
+struct list index_at(struct shell shell, const int32_t *vector, uint64_t length);
 struct list point_at(const struct pointing *asked, int32_t *point);
 
 /* pairing.c: what is wrong with a pairing table */
@@ -120,7 +137,7 @@ enum fault {
     BEYOND_NOT_0,
     NO_STEP,
     NO_PLACES,
-    BYTE_14_NOT_0,
+    BAD_SELECTOR,
     BYTE_15_NOT_0,
     TOTAL_PASSED,
     FAULTS /* how many there are */
@@ -136,6 +153,8 @@ void set_two_bytes(uint8_t *high, uint64_t number);
 struct judgment judge(const uint8_t *bytes, uint64_t size);
 uint64_t row_of(const struct table *table, uint64_t place);
 const uint8_t *row_at(const struct table *table, uint64_t place);
+int do_rows_differ(const struct table *table, uint64_t at);
+struct shell shell_of(const uint8_t *row, uint64_t number);
 
 /* quantizing.c: the record of a vector, and the steps on the way to it */
 enum way { EXACT, DOWN, UP, HALF_DOWN, HALF_UP };

@@ -1,4 +1,5 @@
-/* The shells and N, by the recurrence of docs/RULES.md, "Points and counts"; and the errors of a test itself. */
+/* The shells and N, by the recurrence of docs/RULES.md, "Points and counts"; and the errors of a test itself. N is the
+   same in every enumeration. */
 
 #include "rules.h"
 
@@ -33,7 +34,7 @@ int is_usable(struct shell shell)
 uint64_t largest_radius(uint64_t length)
 {
     uint64_t largest = MOST_RADIUS;
-    while (!is_usable((struct shell){length, largest}))
+    while (!is_usable((struct shell){length, largest, PRODUCT}))
         largest--;
     return largest;
 }
@@ -49,20 +50,21 @@ void for_each_shell(visit_shell *visit)
 {
     for (uint64_t length = 1; length <= MOST_LENGTH; length++)
         for (uint64_t radius = 0; radius <= MOST_RADIUS; radius++)
-            visit((struct shell){length, radius});
+            visit((struct shell){length, radius, PRODUCT});
 }
 
-void for_each_usable_shell(visit_shell *visit)
+/* Each usable shell in each enumeration. */
+void for_each_numbering(visit_shell *visit)
 {
     for (uint64_t length = 1; length <= MOST_LENGTH; length++)
-        for (uint64_t radius = 0; radius <= MOST_RADIUS; radius++)
-            if (is_usable((struct shell){length, radius}))
-                visit((struct shell){length, radius});
+        for (uint64_t radius = 0; radius <= largest_radius(length); radius++)
+            for (uint64_t selector = 0; selector < SELECTORS; selector++)
+                visit((struct shell){length, radius, selector});
 }
 
 void own_error(const char *what, struct shell shell)
 {
-    printf("the test itself, length %lu, radius %lu: %s\n", shell.length, shell.radius, what);
+    printf("the test itself, length %lu, radius %lu, selector %lu: %s\n", shell.length, shell.radius, shell.selector, what);
     exit(1);
 }
 

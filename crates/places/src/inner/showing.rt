@@ -3,7 +3,6 @@
 use cells::inner::judging::Seen;
 use counts::Radius;
 use numbering::inner::Found;
-use numbering::inner::find;
 use numbering::inner::of_radius;
 use numbering::inner::write_point;
 use rules::Judged;
@@ -31,8 +30,7 @@ fn write_sought(row: &[u8], radius: usize, n: u64, out: &mut [i32])
     requires { ⌜ IsRow (now row) × NamesPoint (now row) radius n × (listed.length (now out) ≡ lengthOf (now row)) ⌝ }
     ensures { λ _. ⌜ now (out .exit) ≡ pointNamed (now (row .entry)) radius n ⌝ }
 {
-    let numbering = of_radius(row, Radius(radius));
-    write_point(numbering, n, find(numbering, n), out);
+    numbering::inner::write_sought(of_radius(row, Radius(radius)), n, out);
 }
 
 // Zeros into the whole buffer.

@@ -15,7 +15,7 @@ returns : tie.Need-returns
 returns c =
     let a = c .before .before .args in
     let m = a .numbering in
-    point-4 (m .length .0) (m .radius .0) (a .n) (a .out .now) (c .if1 .taken)
+    point-4 (enumerationIn m) (m .length .0) (m .radius .0) (a .n) (a .out .now) (c .if1 .taken)
 
 seek-requires : tie.Need-seek-requires
 seek-requires c κs = search needs
@@ -43,23 +43,22 @@ same-length : tie.Need-same-length
 same-length c = search needs
 
 returns-2 : tie.Need-returns-2
-unfolding enumerationIn
 returns-2 c =
     let e = c .before .before .before .before .before .before in
     let a = e .before .before .before .args in
     let m = a .numbering in
     let there = rw (c .before .before .before .before .found .given .1) at (e .seek .ensures) in
-    let does = point-0 (m .length .0) (m .radius .0) (a .n) (a .out .now) (e .before .if1 .left) (there .0) in
+    let does = point-0 (enumerationIn m) (m .length .0) (m .radius .0) (a .n) (a .out .now) (e .before .if1 .left) (there .0) in
     (does .0, c .before .write-point .ensures ∙ does .1)
 
 returns-3 : tie.Need-returns-3
-unfolding enumerationIn distance
+unfolding distance
 returns-3 c =
     let e = c .before .before .before in
     let a = e .before .before .before .args in
     let m = a .numbering in
     let past = rw (c .before .total .given .1) at (e .seek .ensures) in
-    let does = point-6 (m .length .0) (m .radius .0) (a .n) (a .out .now) (e .before .if1 .left) (past .0) in
+    let does = point-6 (enumerationIn m) (m .length .0) (m .radius .0) (a .n) (a .out .now) (e .before .if1 .left) (past .0) in
     (ap (λ (total : ℕ). 6 ∷ (a .n - total) ∷ []) (past .1) ∙ does .0, does .1)
 
 pub point-usable-spec : {M : Type 1} → statement M

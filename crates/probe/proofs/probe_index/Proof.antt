@@ -25,14 +25,14 @@ returns c =
     let a = c .before .before .before .before .args in
     let told = c .before .n .given in
     let answer = c .before .before .before .index in
-    sym (answer-coded (told .0 .0) []) ∙ says-coded indexMeaning coded (answer .result) _ (indexSays (a .length) (a .radius) (a .x .now)) (told .1) (answer .ensures)
+    sym (answer-coded (told .0 .0) []) ∙ says-coded indexMeaning coded (answer .result) _ (indexSays (a .selector) (a .length) (a .radius) (a .x .now)) (told .1) (answer .ensures)
 
 returns-2 : tie.Need-returns-2
 returns-2 c =
     let a = c .before .before .before .before .before .args in
     let told = c .before .before .refusal .given in
     let answer = c .before .before .before .before .index in
-    c .refused .ensures ∙ says-coded indexMeaning coded (answer .result) _ (indexSays (a .length) (a .radius) (a .x .now)) (told .1) (answer .ensures)
+    c .refused .ensures ∙ says-coded indexMeaning coded (answer .result) _ (indexSays (a .selector) (a .length) (a .radius) (a .x .now)) (told .1) (answer .ensures)
 
 pub probe-index-spec : {M : Type 1} → statement M
 probe-index-spec =

@@ -4,6 +4,7 @@ use crate::inner::row::length;
 use crate::inner::row::places;
 use crate::inner::row::radii;
 use crate::inner::row::radius;
+use crate::inner::row::selector;
 use crate::inner::row::step;
 use ranges::inner::largest_radius;
 ghost use mathlib.Core.Path.{_≡_};
@@ -51,7 +52,7 @@ fn bad_radii(row: &[u8]) -> bool
     false
 }
 
-// What stands behind the radii: the step, the places, two zeros.
+// What stands behind the radii: the step, the places, the selector, a zero.
 fn bad_tail(row: &[u8]) -> bool
     requires { ⌜ listed.length (now row) ≡ rowLength ⌝ }
     ensures { λ b. ⌜ b ≡ anyOf (tailFaults (now (row .entry))) ⌝ }
@@ -62,7 +63,7 @@ fn bad_tail(row: &[u8]) -> bool
     if places(row) < 1 {
         return true;
     }
-    if byte(row, 14) != 0 {
+    if 1 < selector(row).0 {
         return true;
     }
     byte(row, 15) != 0

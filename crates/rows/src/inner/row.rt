@@ -1,10 +1,11 @@
 // A row of the table, lent as its bytes, and its fields.
 use counts::Length;
 use counts::Radius;
+use enumeration::Selector;
 ghost use mathlib.Core.Path.{_≡_};
 ghost use Prim.Native.Nat.{_<_};
 ghost use lib.ListN as listed;
-ghost use Rattle.tables.specs.Row.{rowLength, byteOf, lengthOf, radiiOf, radiusAt, pairOf, stepOf, placesOf};
+ghost use Rattle.tables.specs.Row.{rowLength, byteOf, lengthOf, radiiOf, radiusAt, pairOf, stepOf, placesOf, selectorOf};
 ghost use Rattle.tables.specs.Table.{rowsOf, rowAt};
 
 // The row of a number.
@@ -69,4 +70,12 @@ pub fn places(row: &[u8]) -> usize
     ensures { λ n. ⌜ (n ≡ placesOf (now (row .entry))) × (n < 65536) ⌝ }
 {
     pair(row, 12)
+}
+
+// The selector of the row's enumeration.
+pub fn selector(row: &[u8]) -> Selector
+    requires { ⌜ listed.length (now row) ≡ rowLength ⌝ }
+    ensures { λ v. ⌜ v .0 ≡ selectorOf (now (row .entry)) ⌝ }
+{
+    Selector(byte(row, 14))
 }

@@ -17,7 +17,7 @@ array-borrow-prefix-x c = search needs
 
 slice-aggregate-index-of : tie.Need-slice-aggregate-index-of
 slice-aggregate-index-of c =
-    sym (length-take-le (length (c .before .before .before .before .args .numbers .now) - 2) (replicate 32 (pos 0)) (omega arith))
+    sym (length-take-le (length (c .before .before .before .before .args .numbers .now) - 3) (replicate 32 (pos 0)) (omega arith))
 
 index-of-requires : tie.Need-index-of-requires
 index-of-requires c κs = search needs

@@ -1,15 +1,32 @@
--- `numbering::inner::index` is the index of the enumeration: the product index.
-use Rattle.numbering.specs.Numbered.{enumerationIn}
+-- `numbering::inner::index` is the index of the enumeration: the product index, or the magnitude index.
+use borrow.Author.Needs.{needs}
+use Rattle.magnitude.proofs.Rows.{usable-countable}
+use Rattle.numbering.proofs.Selected.{usable-by-count, index-by}
 use Rattle.numbering.proofs.inner.index.Statement.{statement}
 use Rattle.numbering.proofs.inner.index.Tie as tie
 
-index-of-requires : tie.Need-index-of-requires
-unfolding enumerationIn
-index-of-requires c κs = c .pre
+product-requires : tie.Need-index-of-requires
+product-requires c κs =
+    let st = c .before .before .before .before in
+    (usable-by-count (st .args .numbering) (st .pre .0), st .pre .1)
+
+magnitude-requires : tie.Need-index-of-requires-2
+magnitude-requires c κs =
+    let st = c .before .before .before .before in
+    let m = st .args .numbering in
+    let on = st .pre .1 in
+    record { of-radius = on .of-radius; countable = rw (on .of-length) (usable-countable (m .length .0) (m .radius .0) (usable-by-count m (st .pre .0))) }
 
 returns : tie.Need-returns
-unfolding enumerationIn
-returns c = c .index-of .ensures
+returns c =
+    let a = c .before .before .before .before .before .args in
+    index-by (a .numbering) (c .before .enum-told .given .1) (a .x .now) (c .index-of .ensures)
+
+returns-2 : tie.Need-returns-2
+returns-2 c =
+    let a = c .before .before .before .before .before .args in
+    index-by (a .numbering) (c .before .enum-told2 .given .1) (a .x .now) (c .index-of2 .ensures)
 
 pub index-spec : {M : Type 1} → statement M
-index-spec = tie.close (tie.spec index-of-requires returns)
+index-spec =
+    tie.close (tie.spec (λ c. search needs) product-requires (λ c. search needs) magnitude-requires returns returns-2)

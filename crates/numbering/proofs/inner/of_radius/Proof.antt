@@ -1,14 +1,17 @@
--- `numbering::inner::of_radius` takes the length from the row, whose enumeration is that of the numbering.
-use mathlib.Core.Path.{refl}
+-- `numbering::inner::of_radius` takes the length and the selector from the row.
+use mathlib.Core.Path.{refl, ap, _∙_}
 use borrow.Author.Needs.{needs}
-use Rattle.tables.specs.Row.{enumerationOf}
-use Rattle.numbering.specs.Numbered.{enumerationIn}
+use Rattle.numbering.specs.Numbered.{selectedOf}
 use Rattle.numbering.proofs.inner.of_radius.Statement.{statement}
 use Rattle.numbering.proofs.inner.of_radius.Tie as tie
 
 returns : tie.Need-returns
-unfolding enumerationIn enumerationOf
-returns c = record { is-length = c .length .ensures; is-radius = refl; is-enumeration = refl }
+returns c =
+    record {
+      is-length = c .length .ensures;
+      is-radius = refl;
+      is-selected = c .before .select .ensures ∙ ap selectedOf (c .before .before .selector .ensures);
+    }
 
 pub of-radius-spec : {M : Type 1} → statement M
-of-radius-spec = tie.close (tie.spec (λ c κs. search needs) returns)
+of-radius-spec = tie.close (tie.spec (λ c κs. search needs) (λ c κs. search needs) (λ c κs. search needs) returns)

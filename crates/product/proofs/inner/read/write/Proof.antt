@@ -9,8 +9,9 @@ use lib.ListN.{length, take, length-set}
 use mir.Syntax.{w32}
 use mir.Val.{toZ, ofZ}
 use Rattle.coordinates.proofs.Coordinates.{kept}
+use Rattle.coordinates.proofs.Writing.{one-less, write-one, write-all}
+use Rattle.enumeration.proofs.Steps.{write-none}
 use Rattle.product.specs.Components.{MakesPoint, writtenFrom}
-use Rattle.product.proofs.Writing.{write-one, write-all}
 use Rattle.product.proofs.inner.read.write.Statement.{statement}
 use Rattle.product.proofs.inner.read.write.Tie as tie
 
@@ -57,13 +58,16 @@ loop-again c =
     let at = c .before .before .before .before .loop in
     let step = c .before .before .next in
     let z = step .result .c in
-    let more =
-    write-one (writtenFrom (a .components) (length (a .out .now))) (at .out) (at .at) (at .left) (step .result .left) z (toZ w32 (ofZ w32 z))
-    (omega arith)
-    (kept z (sfits-of (c .before .struct-told .given .0 .1)))
-    (step .ensures)
-    (at .inv .3) in
-    (simp length-set (omega arith), simp length-set (omega arith), more .0, more .1)
+    let z′ = toZ w32 (ofZ w32 z) in (
+      simp length-set (omega arith),
+      simp length-set (omega arith),
+      rw (one-less (at .out) (at .at) z′) (step .ensures .0),
+      write-one (writtenFrom (a .components) (length (a .out .now))) (at .out) (at .at) (writtenFrom (at .left)) (writtenFrom (step .result .left)) z z′
+          (omega arith)
+          (kept z (sfits-of (c .before .struct-told .given .0 .1)))
+          (step .ensures .1)
+          (at .inv .3),
+    )
 
 same-length : tie.Need-same-length Inv-loop μ-loop
 same-length c = c .before .loop .inv .1
@@ -72,7 +76,11 @@ returns : tie.Need-returns Inv-loop μ-loop
 returns c =
     let a = c .before .before .args in
     let at = c .before .loop in
-    write-all (writtenFrom (a .components) (length (a .out .now))) (at .out) (at .at) (at .left) (omega arith) (at .inv .3)
+    let q = at .left in
+    write-all (writtenFrom (a .components) (length (a .out .now))) (at .out) (at .at) (writtenFrom q)
+    (write-none (q .s) 0 (q .k) (q .pattern) (q .shape) (q .sign))
+    (omega arith)
+    (at .inv .3)
 
 pub write-spec : {M : Type 1} → statement M
 write-spec =

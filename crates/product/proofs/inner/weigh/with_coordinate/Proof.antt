@@ -9,10 +9,9 @@ use lib.ListN.{length, drop, getD}
 use lib.Signed.{ltZ}
 use mir.Syntax.{w32}
 use mir.Val.{SFits, toZ, ofZ}
-use Rattle.coordinates.proofs.Coordinates.{kept}
+use Rattle.coordinates.proofs.Coordinates.{kept, zero-bits, nonzero-bits, negative-bits}
 use Rattle.product.specs.declared.inner.weigh.Weight.{Weight}
 use Rattle.product.specs.Weights.{weightOf, extended, Room}
-use Rattle.product.proofs.Coordinates.{zero-bits, nonzero-bits, negative-is}
 use Rattle.product.proofs.Growth.{Added, with-zero, with-nonzero}
 use Rattle.product.proofs.inner.weigh.with_coordinate.Statement.{statement}
 use Rattle.product.proofs.inner.weigh.with_coordinate.Tie as tie
@@ -25,7 +24,7 @@ read-nonzero : (behind : Weight) (x : List ℤ) (at m : ℕ) → Added behind x 
 read-nonzero behind x at m p f n e =
     let z = getD x at (pos 0) in
     with-nonzero behind x at p m (ltZ (toZ w32 (ofZ w32 z)) (pos 0)) (nonzero-bits z n) (e ∙ ap natAbs (kept z f))
-    (ap (λ (y : ℤ). ltZ y (pos 0)) (kept z f) ∙ negative-is z)
+    (negative-bits z f)
 
 mul-c : tie.Need-mul-c
 mul-c c = search needs

@@ -1,7 +1,7 @@
 /* One comparison of quantize with what is expected of it, by both of its calls. What they are lent lies among guards,
    and every byte of it is compared afterwards: only the record may change, and only where there is no refusal. */
 
-#include "comparisons.h"
+#include "lent_calls.h"
 
 #include <stdio.h>
 #include <stdlib.h>
@@ -47,9 +47,9 @@ static void take_over_record(struct room *room, const struct answer *expected)
 }
 
 /* The coefficients as bits, in hexadecimal. */
-static void print_vector(const char *call, const struct vector *vector)
+static void print_vector(const char *name, const struct vector *vector)
 {
-    print_table(call, &vector->table);
+    print_table(name, &vector->table);
     printf(", place %lu, %lu coefficients", vector->place, vector->length);
     for (uint64_t i = 0; i < vector->length && i < MOST_LENT; i++)
         printf(" %08x", vector->coefficients[i]);
@@ -57,11 +57,11 @@ static void print_vector(const char *call, const struct vector *vector)
 }
 
 /* What was lent, after a call, and what it must be. */
-static void compare_rooms(const char *call, const struct vector *vector, const struct room *room, const struct room *wanted)
+static void compare_rooms(const char *name, const struct vector *vector, const struct room *room, const struct room *wanted)
 {
     if (memcmp(room, wanted, sizeof *room) == 0)
         return;
-    print_vector(call, vector);
+    print_vector(name, vector);
     if (memcmp(room->table, wanted->table, sizeof room->table) != 0)
         end("something is written at the table");
     if (memcmp(&room->coefficients, &wanted->coefficients, sizeof room->coefficients) != 0)
@@ -75,36 +75,36 @@ static void compare_rooms(const char *call, const struct vector *vector, const s
 }
 
 /* Both calls, each with a room of its own. What has no elements is lent as a null pointer where `by_null` says so. */
-static void call_both(const struct vector *vector, const struct answer *expected, int by_null)
+static void call_both(const char *name, struct quantize_calls calls, const struct vector *vector, const struct answer *expected,
+                      int by_null)
 {
     const struct room before = lend(vector, expected);
     struct room wanted = before, room = before, other = before;
     take_over_record(&wanted, expected);
     const int no_table = by_null && vector->table.size == 0, no_coefficients = by_null && vector->length == 0;
     const int no_record = by_null && vector->record_length == 0;
-    const uint32_t got = probe_quantize(no_table ? 0 : room.table + GUARDS, vector->table.size, vector->place,
-                                        no_coefficients ? 0 : room.coefficients.floats + GUARDS, vector->length,
-                                        no_record ? 0 : room.record + GUARDS, vector->record_length);
+    const uint32_t got = calls.refusal(no_table ? 0 : room.table + GUARDS, vector->table.size, vector->place,
+                                       no_coefficients ? 0 : room.coefficients.floats + GUARDS, vector->length,
+                                       no_record ? 0 : room.record + GUARDS, vector->record_length);
     if (got != expected->refusal) {
-        print_vector("probe_quantize", vector);
+        print_vector(name, vector);
         differ(as_answer(expected->refusal), as_answer(got));
     }
-    compare_rooms("probe_quantize", vector, &room, &wanted);
-    const uint64_t got_value = probe_quantize_value(no_table ? 0 : other.table + GUARDS, vector->table.size, vector->place,
-                                                    no_coefficients ? 0 : other.coefficients.floats + GUARDS, vector->length,
-                                                    no_record ? 0 : other.record + GUARDS, vector->record_length);
+    compare_rooms(name, vector, &room, &wanted);
+    const uint64_t got_value = calls.value(no_table ? 0 : other.table + GUARDS, vector->table.size, vector->place,
+                                           no_coefficients ? 0 : other.coefficients.floats + GUARDS, vector->length,
+                                           no_record ? 0 : other.record + GUARDS, vector->record_length);
     if (got_value != expected->value) {
-        print_vector("probe_quantize_value", vector);
+        print_vector(name, vector);
         printf(", value: expected %lu, got %lu\n", expected->value, got_value);
         exit(1);
     }
-    compare_rooms("probe_quantize_value", vector, &other, &wanted);
-    note(as_answer(expected->refusal), &compared.vectors);
+    compare_rooms(name, vector, &other, &wanted);
 }
 
-void expect_quantize(const struct vector *vector, const struct answer *expected)
+void expect_quantizing(const char *name, struct quantize_calls calls, const struct vector *vector, const struct answer *expected)
 {
-    call_both(vector, expected, 0);
-    if (vector->table.size == 0 || vector->length == 0 || vector->record_length == 0)
-        call_both(vector, expected, 1);
+    const int is_any_empty = vector->table.size == 0 || vector->length == 0 || vector->record_length == 0;
+    for (int by_null = 0; by_null <= is_any_empty; by_null++)
+        call_both(name, calls, vector, expected, by_null);
 }
