@@ -8,7 +8,7 @@
 #include <string.h>
 
 enum { ROOM = MOST_LENGTH + 1, GARBAGE = 0x5a }; /* the room for an output, or a record, that is too long */
-enum { LEAST_REFUSED = 300 };                    /* takes with each refusal */
+enum { LEAST_REFUSED = 300 };                    /* takes with each refusal, and empty shapes */
 enum { ITEM_REFUSAL, ITEM_ANSWER, ITEM_REASON, ITEM_DISTANCE, ITEM_NAMED = 1 };
 
 /* How often each call was compared, and how many of these comparisons were of refusals. */
@@ -22,6 +22,8 @@ static struct {
     uint64_t pages;
     uint64_t refused;
     uint64_t takes_refused[MOST_REFUSAL + 1]; /* with each number */
+    uint64_t empty_points;                    /* refused with 15 */
+    uint64_t empty_places;                    /* with the reason 15 */
 } compared;
 
 static void note(uint64_t *calls, int is_refused)
@@ -30,13 +32,15 @@ static void note(uint64_t *calls, int is_refused)
     compared.refused += is_refused != 0;
 }
 
-/* Every refusal of take must be among them. */
+/* Every refusal of take must be among them, and 15 of point and of read. */
 void print_compared(void)
 {
     const uint64_t refusals[] = {7, 4, 8, 9, 12};
     for (uint64_t i = 0; i < ENTRIES(refusals); i++)
         if (compared.takes_refused[refusals[i]] < LEAST_REFUSED)
             fail("take", "a refusal that is hardly compared");
+    if (compared.empty_points < LEAST_REFUSED || compared.empty_places < LEAST_REFUSED)
+        fail("point or read", "empty shapes that are hardly compared");
     printf("%lu indices, %lu points, %lu vectors, ", compared.indices, compared.points, compared.vectors);
     printf("%lu takes, %lu runs, %lu places, %lu sent pages, ", compared.takes, compared.runs, compared.places, compared.pages);
     printf("%lu of all these refused, or with a refused take\n", compared.refused);
@@ -69,6 +73,7 @@ uint64_t agree_on_point(struct shell shell, uint64_t index, uint64_t out_length)
     hold("point", ours[ITEM_REFUSAL], plain.refusal, memcmp(one, other, sizeof one) == 0);
     hold("distance that point names", ours[ITEM_NAMED], plain.distance, 1);
     note(&compared.points, plain.refusal != 0);
+    compared.empty_points += plain.refusal == 15;
     return plain.refusal;
 }
 
@@ -123,6 +128,7 @@ uint64_t agree_on_read(const struct table *table, const uint8_t *page, uint64_t 
         hold("distance of read", ours[ITEM_DISTANCE], plain.distance, 1);
     }
     note(&compared.places, plain.refusal != 0);
+    compared.empty_places += plain.refusal == 0 && plain.reason == 15;
     return plain.refusal;
 }
 

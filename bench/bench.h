@@ -121,12 +121,14 @@ struct plain_sending empty_send(const uint8_t *table, uint64_t table_length, con
 uint64_t empty_send_item(const uint8_t *table, uint64_t table_length, const float *run, uint64_t run_length, uint8_t *buffer,
                          uint64_t buffer_length, uint64_t which);
 
-/* settings.c: the two tables, of one row and of 32; a table of one row for whole pages alone; one of a row with the
-   magnitude enumeration; and a record of chance for a place, but not for one of the whole pages */
-enum { SETTINGS = 2 };
-extern struct setting settings[SETTINGS], long_page, magnitude_row;
+/* settings.c: the two tables, of one row and of 32; a table of one row for whole pages alone; those of a row with
+   another enumeration than the product enumeration; and a record of chance for a place, but not for one of the whole
+   pages */
+enum { SETTINGS = 2, OTHER_ROWS = 2 };
+extern struct setting settings[SETTINGS], long_page, other_rows[OTHER_ROWS];
 void begin_settings(void);
 const uint8_t *row_for(const struct setting *setting, uint64_t place);
+uint64_t named_index(struct shell shell);
 void sound_record(const struct setting *setting, uint64_t place, uint8_t *record);
 
 /* vectors.c: a vector for a place */

@@ -1,6 +1,6 @@
 /* Calls with what the second program draws: bad tables of every kind, vectors near every tie or anywhere, some of
    them unusable, cells of every kind, with what arrives there, one by one and as runs, and whole pages with every set
-   of faults. Each row has the one enumeration or the other. */
+   of faults. Each row has one of the enumerations. */
 
 #include "../tests/second/draws/send_draws.h"
 #include "bench.h"

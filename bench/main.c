@@ -12,6 +12,7 @@ int main(int words, char **arguments)
     if (is_measured && words <= LEAST_ARGUMENTS)
         fail("arguments", "too few");
     count_points();
+    count_for_ranking();
     plain_begin();
     begin_settings();
     chance_from(SEED_OF_DRAWS);
@@ -29,9 +30,11 @@ int main(int words, char **arguments)
     for (int i = 0; i < SETTINGS; i++)
         bench_sends(&settings[i]);
     bench_sends(&long_page);
-    bench_vectors(&magnitude_row);
-    bench_reads(&magnitude_row);
-    bench_sends(&magnitude_row);
+    for (int i = 0; i < OTHER_ROWS; i++) {
+        bench_vectors(&other_rows[i]);
+        bench_reads(&other_rows[i]);
+        bench_sends(&other_rows[i]);
+    }
     if (is_measured) {
         bench_programs(arguments + 1);
         print_slow_lines();

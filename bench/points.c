@@ -1,4 +1,4 @@
-/* The index of a point, and the point of an index, by both enumerations: all points of a shell equally likely. */
+/* The index of a point, and the point of an index, by each enumeration: all points of a shell equally likely. */
 
 #include "bench.h"
 
@@ -37,10 +37,10 @@ static void run_point_item(any_call *call, uint64_t inputs)
         point(shell.selector, shell.length, shell.radius, indices[i], out, shell.length, 0);
 }
 
-/* Any index below N, and its point, which must lead back. */
+/* Any index that names a point, and its point, which must lead back. */
 static void draw(uint64_t i)
 {
-    indices[i] = chance_below(counts.points[shell.length][shell.radius]);
+    indices[i] = named_index(shell);
     if (agree_on_point(shell, indices[i], shell.length) != 0)
         fail("point", "refused");
     plain_point(shell.selector, shell.length, shell.radius, indices[i], points[i], shell.length);
@@ -50,28 +50,30 @@ static void draw(uint64_t i)
 
 static void bench_shell(void)
 {
-    const char *by = shell.selector == MAGNITUDE ? "magnitude " : "";
+    static const char *const by[SELECTORS] = {[PRODUCT] = "", [MAGNITUDE] = "magnitude ", [PRODUCT_PRODUCT] = "product-product "};
     char what[NAME];
     for (uint64_t i = 0; i < INPUTS; i++)
         draw(i);
-    snprintf(what, sizeof what, "%sindex, length %lu, radius %lu", by, shell.length, shell.radius);
+    snprintf(what, sizeof what, "%sindex, length %lu, radius %lu", by[shell.selector], shell.length, shell.radius);
     measure((struct rivals){what,
                             {run_index, (any_call *)probe_index, (any_call *)empty_index},
                             {run_index, (any_call *)plain_index, (any_call *)empty_index},
                             COUNTED});
-    snprintf(what, sizeof what, "%spoint, length %lu, radius %lu", by, shell.length, shell.radius);
+    snprintf(what, sizeof what, "%spoint, length %lu, radius %lu", by[shell.selector], shell.length, shell.radius);
     measure((struct rivals){what,
                             {run_point_item, (any_call *)probe_point, (any_call *)empty_point_item},
                             {run_point, (any_call *)plain_point, (any_call *)empty_point},
                             COUNTED});
 }
 
+/* Length 16 with radius 12 is not usable by the product-product enumeration, which has radius 11 there. */
 void bench_points(void)
 {
     const struct shell shells[] = {
         {2, 32, PRODUCT}, {3, 20, PRODUCT}, {4, 16, PRODUCT}, {4, 32, PRODUCT}, {8, 8, PRODUCT}, {8, 12, PRODUCT},
         {16, 4, PRODUCT}, {16, 6, PRODUCT}, {16, 12, PRODUCT},
         {2, 32, MAGNITUDE}, {4, 16, MAGNITUDE}, {8, 8, MAGNITUDE}, {16, 6, MAGNITUDE}, {16, 12, MAGNITUDE},
+        {2, 32, PRODUCT_PRODUCT}, {4, 16, PRODUCT_PRODUCT}, {8, 8, PRODUCT_PRODUCT}, {16, 6, PRODUCT_PRODUCT}, {16, 11, PRODUCT_PRODUCT},
     };
     for (uint64_t i = 0; i < ENTRIES(shells); i++) {
         shell = shells[i];

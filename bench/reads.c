@@ -1,5 +1,5 @@
 /* Reading: places by chance. Of 16 places one is missing, one contested and one unreadable, two are mended where a
-   shell of the row has a codeword past N, and the others are sound. */
+   shell of the row has a codeword past the end, and the others are sound. */
 
 #include "bench.h"
 
@@ -34,10 +34,14 @@ static void run_read_item(any_call *call, uint64_t inputs)
                 row_for(setting, places[i])[AT_LENGTH], ITEM_ANSWER);
 }
 
-/* The last codeword below 2^b, which is N or more but for shells of a power of two. */
+/* The last codeword that shows a point, which is past the end but for totals of a power of two. */
 static void mend(const uint8_t *row, uint8_t *record)
 {
-    const uint64_t last = counts.powers[row[AT_LENGTH]][row[AT_RADII + record[AT_RADIUS_NUMBER]]] - 1;
+    const struct shell shell = shell_of(row, record[AT_RADIUS_NUMBER]);
+    const uint64_t total = total_of(shell), power = least_power_from(total);
+    uint64_t last = power - 1;
+    while (last >= total && !names_point(shell, last - power / 2))
+        last--;
     set_two_bytes(record + AT_CODEWORD, last >> 16);
     set_two_bytes(record + AT_CODEWORD + 2, last & 0xffff);
 }

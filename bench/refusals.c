@@ -21,7 +21,7 @@ static uint64_t beside(uint64_t right)
     return chance_below(8) ? right : right - 1 + chance_below(3);
 }
 
-/* Mostly 0 or 1; else one beside these, or one of these only where a number is cut. */
+/* Mostly 0 to 2; else one beside these, or one of these only where a number is cut. */
 static uint64_t selector_by_chance(void)
 {
     const uint64_t selector = chance_below(SELECTORS), cut[] = {256, 65536, TWO_TO_32, TWO_TO_63};
@@ -33,7 +33,7 @@ static uint64_t selector_by_chance(void)
 static void try_points(void)
 {
     const struct shell shell = {chance_below(MOST_LENGTH + 2), chance_below(MOST_RADIUS + 2), selector_by_chance()};
-    const uint64_t n = shell.length <= MOST_LENGTH && shell.radius <= MOST_RADIUS ? counts.points[shell.length][shell.radius] : 0;
+    const uint64_t total = shell.length <= MOST_LENGTH && shell.radius <= MOST_RADIUS ? total_of(shell) : 0;
     int32_t point[MOST_LENGTH + 2] = {0};
     for (uint64_t left = beside(shell.radius); left > 0 && left <= MOST_RADIUS; left--)
         point[chance_below(shell.length + 1)]++;
@@ -42,8 +42,8 @@ static void try_points(void)
     if (chance_below(16) == 0)
         point[chance_below(shell.length + 1)] = INT32_MIN;
     agree_on_index(shell, point, beside(shell.length));
-    agree_on_point(shell, chance_below(2) ? beside(n) : chance_below(n + 1), beside(shell.length));
-    agree_on_point(shell, UINT64_MAX - n, shell.length);
+    agree_on_point(shell, chance_below(2) ? beside(total) : chance_below(total + 1), beside(shell.length));
+    agree_on_point(shell, UINT64_MAX - total, shell.length);
 }
 
 static struct asked asked_by_chance(void)

@@ -1,6 +1,6 @@
 /* The pairing tables that the calls are measured with: one of a row, and one of 32 rows of all lengths with 4,096
-   places; for whole pages one of a row of 4,096 places of length 16; and one of a row with the magnitude enumeration.
-   The others have the product enumeration. */
+   places; for whole pages one of a row of 4,096 places of length 16; and one of a row with the magnitude enumeration,
+   and one with the product-product enumeration. The others have the product enumeration. */
 
 #include "bench.h"
 
@@ -8,7 +8,7 @@ enum { PLACES = 128, STEP = 64 }; /* of each row */
 
 struct setting settings[SETTINGS] = {{.name = "1 row"}, {.name = "32 rows"}};
 struct setting long_page = {.name = "4,096 places of length 16"};
-struct setting magnitude_row = {.name = "1 magnitude row"};
+struct setting other_rows[OTHER_ROWS] = {{.name = "1 magnitude row"}, {.name = "1 product-product row"}};
 
 static void begin_row(uint8_t *row, uint64_t length, uint64_t number)
 {
@@ -38,7 +38,7 @@ static void begin_rows(struct setting *setting)
         const uint64_t length = 1 + number * 5 % MOST_LENGTH, radii = 5 + number % 4;
         begin_row(row, length, radii);
         for (uint64_t i = 0; i < radii; i++)
-            row[AT_RADII + i] = (uint8_t)(i * largest_radius(length) / (radii - 1));
+            row[AT_RADII + i] = (uint8_t)(i * largest_radius(length, PRODUCT) / (radii - 1));
     }
 }
 
@@ -47,8 +47,10 @@ void begin_settings(void)
     begin_one_row(&settings[0], 8, PLACES);
     begin_rows(&settings[1]);
     begin_one_row(&long_page, MOST_LENGTH, MOST_PLACES);
-    begin_one_row(&magnitude_row, 8, PLACES);
-    magnitude_row.table.bytes[AT_SELECTOR] = MAGNITUDE;
+    for (int i = 0; i < OTHER_ROWS; i++) {
+        begin_one_row(&other_rows[i], 8, PLACES);
+        other_rows[i].table.bytes[AT_SELECTOR] = (uint8_t)(MAGNITUDE + i);
+    }
 }
 
 /* Of a table whose rows have 128 places each. */
@@ -57,10 +59,20 @@ const uint8_t *row_for(const struct setting *setting, uint64_t place)
     return setting->table.bytes + place / PLACES * ROW_SIZE;
 }
 
-/* Any radius of the row of the place, and any index below N. */
+/* An index of chance that names a point. */
+uint64_t named_index(struct shell shell)
+{
+    uint64_t index;
+    do
+        index = chance_below(total_of(shell));
+    while (!names_point(shell, index));
+    return index;
+}
+
+/* Any radius of the row of the place, and any point. */
 void sound_record(const struct setting *setting, uint64_t place, uint8_t *record)
 {
     const uint8_t *row = row_for(setting, place);
-    const uint64_t number = chance_below(row[AT_NUMBER_OF_RADII]), n = counts.points[row[AT_LENGTH]][row[AT_RADII + number]];
-    write_record(record, place, place / PLACES, number, chance_below(n));
+    const uint64_t number = chance_below(row[AT_NUMBER_OF_RADII]);
+    write_record(record, place, place / PLACES, number, named_index(shell_of(row, number)));
 }

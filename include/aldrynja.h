@@ -19,8 +19,8 @@ extern "C" {
 /* "Calls for C": the version of this header, and of the formats that its calls take. The version is raised when a
    program that was built for the version before would be given something else: since version 2 a record of a foreign
    row is refused with 9, and a held one is a fault of its cell (12); since version 3 byte 14 of a row of the pairing
-   table may be 1, where the table was bad (7). */
-#define ALDRYNJA_VERSION 3
+   table may be 1, and since version 4 it may be 2, where the table was bad (7). */
+#define ALDRYNJA_VERSION 4
 
 /* The version of the archive. A program may refuse to run where it is not ALDRYNJA_VERSION. */
 uint32_t aldrynja_version(void);

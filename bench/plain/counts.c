@@ -1,19 +1,8 @@
-/* The counts of docs/RULES.md, "Points and counts" and "The product index", as tables. */
+/* The counts of docs/RULES.md, "The product index" and "The product-product index", as tables. */
 
 #include "plain.h"
 
 struct plain_counts counts;
-
-/* The recurrence of N begins at length 0. */
-static void fill_points(void)
-{
-    counts.points[0][0] = 1;
-    for (int l = 1; l <= MOST_LENGTH; l++) {
-        counts.points[l][0] = 1;
-        for (int k = 1; k <= MOST_RADIUS; k++)
-            counts.points[l][k] = counts.points[l][k - 1] + counts.points[l - 1][k] + counts.points[l - 1][k - 1];
-    }
-}
 
 /* D by Pascal's triangle. */
 static void fill_patterns(void)
@@ -34,33 +23,52 @@ static void fill_shapes(void)
             counts.shapes[s][k] = counts.shapes[s - 1][k - 1] + counts.shapes[s][k - 1];
 }
 
-/* O from the top down. At radius 0 all starts are 0. */
-static void fill_starts(int length, int radius)
+/* The fewest bits e with 2^e at least S. */
+static void fill_bits(struct plain_order *order)
+{
+    for (int s = 1; s <= MOST_LENGTH; s++)
+        for (int k = 1; k <= MOST_RADIUS; k++)
+            while ((uint32_t)1 << order->bits[s][k] < counts.shapes[s][k])
+                order->bits[s][k]++;
+}
+
+/* The ranges from the top down; where they end is the total. At radius 0 all starts are 0, and the total is 1. */
+static void fill_starts(struct plain_order *order, int is_by_fields, int length, int radius)
 {
     uint64_t start = 0;
     for (int s = length < radius ? length : radius; s > 0; s--) {
-        counts.starts[length][radius][s] = start;
-        start += (uint64_t)counts.patterns[length][s] * counts.shapes[s][radius] << s;
+        const uint32_t field = is_by_fields ? (uint32_t)1 << order->bits[s][radius] : counts.shapes[s][radius];
+        order->starts[length][radius][s] = start;
+        start += (uint64_t)counts.patterns[length][s] * field << s;
     }
-    counts.starts[length][radius][0] = start;
+    order->starts[length][radius][0] = start;
+    order->totals[length][radius] = radius == 0 ? 1 : start;
 }
 
-static void fill_usable(int length)
+static void fill_usable(struct plain_order *order, int length)
 {
-    for (int k = 0; k <= MOST_RADIUS && counts.points[length][k] <= TWO_TO_32; k++) {
-        counts.largest[length] = (uint32_t)k;
-        counts.powers[length][k] = 1;
-        while (counts.powers[length][k] < counts.points[length][k])
-            counts.powers[length][k] *= 2;
-        fill_starts(length, k);
+    for (int k = 0; k <= MOST_RADIUS && order->totals[length][k] <= TWO_TO_32; k++) {
+        order->largest[length] = (uint32_t)k;
+        order->powers[length][k] = 1;
+        while (order->powers[length][k] < order->totals[length][k])
+            order->powers[length][k] *= 2;
+    }
+}
+
+static void fill_order(struct plain_order *order, int is_by_fields)
+{
+    fill_bits(order);
+    for (int length = 1; length <= MOST_LENGTH; length++) {
+        for (int radius = 0; radius <= MOST_RADIUS; radius++)
+            fill_starts(order, is_by_fields, length, radius);
+        fill_usable(order, length);
     }
 }
 
 void plain_begin(void)
 {
-    fill_points();
     fill_patterns();
     fill_shapes();
-    for (int length = 1; length <= MOST_LENGTH; length++)
-        fill_usable(length);
+    fill_order(&counts.orders[BY_SHAPES], 0);
+    fill_order(&counts.orders[BY_FIELDS], 1);
 }

@@ -90,12 +90,14 @@ static struct plain_reading look_at_held(const uint8_t *row, const uint8_t *reco
     const uint64_t index = (uint64_t)pair_at(record + AT_CODEWORD) << 16 | pair_at(record + AT_CODEWORD + 2);
     if (number >= row[AT_NUMBER_OF_RADII])
         return zeros(UNREADABLE, 10, length, out);
-    const uint64_t radius = row[AT_RADII + number], power = counts.powers[length][radius], n = counts.points[length][radius];
+    const struct plain_order *order = order_of(row[AT_SELECTOR]);
+    const uint64_t radius = row[AT_RADII + number], power = order->powers[length][radius], total = order->totals[length][radius];
     if (index >= power)
         return zeros(UNREADABLE, 14, length, out);
-    const int is_sound = index < n;
-    plain_unrank(row[AT_SELECTOR], length, radius, is_sound ? index : index - power / 2, out);
-    return (struct plain_reading){0, is_sound ? SOUND : MENDED, 0, is_sound ? 0 : (uint32_t)(index - n)};
+    const int is_sound = index < total;
+    if (!plain_unrank(row[AT_SELECTOR], length, radius, is_sound ? index : index - power / 2, out))
+        return zeros(UNREADABLE, 15, length, out);
+    return (struct plain_reading){0, is_sound ? SOUND : MENDED, 0, is_sound ? 0 : (uint32_t)(index - total)};
 }
 
 /* Refusal 12, or what the cell shows, with its point or zeros in `out`. */

@@ -10,14 +10,22 @@
 
 #pragma GCC visibility push(hidden)
 
-/* Filled once, at the start. */
-struct plain_counts {
-    uint64_t points[MOST_LENGTH + 1][MOST_RADIUS + 1];                  /* N, by length and radius */
+/* The numbers of the product enumeration, or of the product-product enumeration, by length and radius where nothing
+   else is said. */
+struct plain_order {
+    uint64_t totals[MOST_LENGTH + 1][MOST_RADIUS + 1];
     uint64_t powers[MOST_LENGTH + 1][MOST_RADIUS + 1];                  /* 2^b of a usable shell */
-    uint64_t starts[MOST_LENGTH + 1][MOST_RADIUS + 1][MOST_LENGTH + 1]; /* O of a usable shell, by s */
-    uint32_t patterns[MOST_LENGTH + 1][MOST_LENGTH + 1];                /* D, by length and s */
-    uint32_t shapes[MOST_LENGTH + 1][MOST_RADIUS + 1];                  /* S, by s and radius */
+    uint64_t starts[MOST_LENGTH + 1][MOST_RADIUS + 1][MOST_LENGTH + 1]; /* of the ranges, and by s */
+    uint32_t bits[MOST_LENGTH + 1][MOST_RADIUS + 1];                    /* of the field for shapes, by s and radius */
     uint32_t largest[MOST_LENGTH + 1];                                  /* the largest usable radius of a length */
+};
+
+/* Filled once, at the start. The magnitude enumeration has the totals of the product enumeration. */
+enum { BY_SHAPES, BY_FIELDS, ORDERS };
+struct plain_counts {
+    uint32_t patterns[MOST_LENGTH + 1][MOST_LENGTH + 1]; /* D, by length and s */
+    uint32_t shapes[MOST_LENGTH + 1][MOST_RADIUS + 1];   /* S, by s and radius */
+    struct plain_order orders[ORDERS];
 };
 extern struct plain_counts counts;
 
@@ -57,15 +65,18 @@ struct plain_sending {
 /* counts.c */
 void plain_begin(void);
 
-/* product.c and magnitude.c: in a usable shell with what has passed the checks */
+/* product.c and magnitude.c: in a usable shell with what has passed the checks; whether the index names a point, where
+   not every index below the total does */
 uint64_t plain_product_rank(uint64_t length, uint64_t radius, const int32_t *point);
 void plain_product_unrank(uint64_t length, uint64_t radius, uint64_t index, int32_t *out);
+uint64_t plain_fields_rank(uint64_t length, uint64_t radius, const int32_t *point);
+int plain_fields_unrank(uint64_t length, uint64_t radius, uint64_t index, int32_t *out);
 uint64_t plain_magnitude_rank(uint64_t length, uint64_t radius, const int32_t *point);
 void plain_magnitude_unrank(uint64_t length, uint64_t radius, uint64_t index, int32_t *out);
 
 /* points.c: the same by a selector, and the calls */
 uint64_t plain_rank(uint64_t selector, uint64_t length, uint64_t radius, const int32_t *point);
-void plain_unrank(uint64_t selector, uint64_t length, uint64_t radius, uint64_t index, int32_t *out);
+int plain_unrank(uint64_t selector, uint64_t length, uint64_t radius, uint64_t index, int32_t *out);
 uint64_t plain_index(uint64_t selector, uint64_t length, uint64_t radius, const int32_t *point, uint64_t point_length);
 struct plain_pointing plain_point(uint64_t selector, uint64_t length, uint64_t radius, uint64_t index, int32_t *out,
                                   uint64_t out_length);
@@ -91,6 +102,12 @@ struct plain_reading plain_read(const uint8_t *table, uint64_t table_length, con
 /* send.c */
 struct plain_sending plain_send(const uint8_t *table, uint64_t table_length, const float *run, uint64_t run_length, uint8_t *buffer,
                                 uint64_t buffer_length);
+
+/* What a selector says of totals, widths and usable radii. */
+static inline const struct plain_order *order_of(uint64_t selector)
+{
+    return &counts.orders[selector == PRODUCT_PRODUCT ? BY_FIELDS : BY_SHAPES];
+}
 
 static inline uint32_t pair_at(const uint8_t *high)
 {

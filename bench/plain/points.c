@@ -4,15 +4,21 @@
 
 uint64_t plain_rank(uint64_t selector, uint64_t length, uint64_t radius, const int32_t *point)
 {
-    return selector == PRODUCT ? plain_product_rank(length, radius, point) : plain_magnitude_rank(length, radius, point);
+    if (selector == PRODUCT)
+        return plain_product_rank(length, radius, point);
+    return selector == MAGNITUDE ? plain_magnitude_rank(length, radius, point) : plain_fields_rank(length, radius, point);
 }
 
-void plain_unrank(uint64_t selector, uint64_t length, uint64_t radius, uint64_t index, int32_t *out)
+/* Whether the index, which is below the total, names a point. */
+int plain_unrank(uint64_t selector, uint64_t length, uint64_t radius, uint64_t index, int32_t *out)
 {
+    if (selector == PRODUCT_PRODUCT)
+        return plain_fields_unrank(length, radius, index, out);
     if (selector == PRODUCT)
         plain_product_unrank(length, radius, index, out);
     else
         plain_magnitude_unrank(length, radius, index, out);
+    return 1;
 }
 
 /* "20, 1, 2, 3". */
@@ -24,7 +30,7 @@ static uint32_t refusal_of_shell(uint64_t selector, uint64_t length, uint64_t ra
         return 1;
     if (radius > MOST_RADIUS)
         return 2;
-    return radius > counts.largest[length] ? 3 : 0;
+    return radius > order_of(selector)->largest[length] ? 3 : 0;
 }
 
 uint64_t plain_index(uint64_t selector, uint64_t length, uint64_t radius, const int32_t *point, uint64_t point_length)
@@ -43,9 +49,8 @@ struct plain_pointing plain_point(uint64_t selector, uint64_t length, uint64_t r
         return (struct plain_pointing){.refusal = refusal};
     if (out_length != length)
         return (struct plain_pointing){.refusal = 4};
-    const uint64_t n = counts.points[length][radius];
-    if (index >= n)
-        return (struct plain_pointing){6, index - n};
-    plain_unrank(selector, length, radius, index, out);
-    return (struct plain_pointing){0};
+    const uint64_t total = order_of(selector)->totals[length][radius];
+    if (index >= total)
+        return (struct plain_pointing){6, index - total};
+    return (struct plain_pointing){.refusal = plain_unrank(selector, length, radius, index, out) ? 0 : 15};
 }

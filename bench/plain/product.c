@@ -1,11 +1,13 @@
-/* The product enumeration; docs/RULES.md, "The product index". */
+/* The product enumeration and the product-product enumeration; docs/RULES.md, "The product index" and "The
+   product-product index". Each function is compiled for both: what it makes of a field is known then. */
 
 #include "plain.h"
 
 /* In one pass from the last coordinate, where s and the sum of what stands behind are at hand; refused 5 if the sum is
    not the radius. */
-uint64_t plain_product_rank(uint64_t length, uint64_t radius, const int32_t *point)
+static inline uint64_t rank_by(int by, uint64_t length, uint64_t radius, const int32_t *point)
 {
+    const struct plain_order *order = &counts.orders[by];
     const uint32_t(*patterns)[MOST_LENGTH + 1] = counts.patterns;
     const uint32_t(*shapes)[MOST_RADIUS + 1] = counts.shapes;
     uint64_t s = 0, sum = 0, sign = 0;
@@ -27,24 +29,27 @@ uint64_t plain_product_rank(uint64_t length, uint64_t radius, const int32_t *poi
     }
     if (sum != radius)
         return REFUSED + 5;
-    return counts.starts[length][radius][s] + (((uint64_t)pattern * (*shapes)[radius] + shape) << s) + sign;
+    const uint64_t patterns_before = by == BY_FIELDS ? (uint64_t)pattern << order->bits[s][radius] : (uint64_t)pattern * (*shapes)[radius];
+    return order->starts[length][radius][s] + ((patterns_before + shape) << s) + sign;
 }
 
-/* The index must be below N. A magnitude i is the largest with S(s,k) - S(s,k-i+1) up to the shape; the last one
-   is what is left. */
-void plain_product_unrank(uint64_t length, uint64_t radius, uint64_t index, int32_t *out)
+/* The index must be below the total; an empty shape writes nothing, and is told by 0. A magnitude i is the largest with
+   S(s,k) - S(s,k-i+1) up to the shape; the last one is what is left. */
+static inline int unrank_by(int by, uint64_t length, uint64_t radius, uint64_t index, int32_t *out)
 {
     const uint32_t(*patterns)[MOST_LENGTH + 1] = counts.patterns + length;
-    const uint64_t *starts = counts.starts[length][radius];
+    const uint64_t *starts = counts.orders[by].starts[length][radius];
     uint64_t s = length < radius ? length : radius, sum = radius;
     uint32_t pattern = 0, shape = 0;
     while (s > 0 && index >= starts[s - 1])
         s--;
     const uint64_t sign = index - starts[s];
     if (s > 0) {
-        const uint32_t block = (uint32_t)(sign >> s), all = counts.shapes[s][radius];
-        pattern = block / all;
-        shape = block % all;
+        const uint32_t block = (uint32_t)(sign >> s), all = counts.shapes[s][radius], bits = counts.orders[by].bits[s][radius];
+        pattern = by == BY_FIELDS ? block >> bits : block / all;
+        shape = by == BY_FIELDS ? block - (pattern << bits) : block % all;
+        if (by == BY_FIELDS && shape >= all)
+            return 0;
     }
     for (const int32_t *end = out + length; out < end; out++) {
         const uint32_t zeros = (*--patterns)[s];
@@ -62,4 +67,25 @@ void plain_product_unrank(uint64_t length, uint64_t radius, uint64_t index, int3
             sum = k - 1;
         }
     }
+    return 1;
+}
+
+uint64_t plain_product_rank(uint64_t length, uint64_t radius, const int32_t *point)
+{
+    return rank_by(BY_SHAPES, length, radius, point);
+}
+
+void plain_product_unrank(uint64_t length, uint64_t radius, uint64_t index, int32_t *out)
+{
+    unrank_by(BY_SHAPES, length, radius, index, out);
+}
+
+uint64_t plain_fields_rank(uint64_t length, uint64_t radius, const int32_t *point)
+{
+    return rank_by(BY_FIELDS, length, radius, point);
+}
+
+int plain_fields_unrank(uint64_t length, uint64_t radius, uint64_t index, int32_t *out)
+{
+    return unrank_by(BY_FIELDS, length, radius, index, out);
 }

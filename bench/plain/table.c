@@ -21,7 +21,7 @@ static int is_good(const uint8_t *row)
     const uint32_t length = row[AT_LENGTH], number = row[AT_NUMBER_OF_RADII];
     if (length - 1 >= MOST_LENGTH || number - 1 >= MOST_RADII)
         return 0;
-    if (!are_good_radii(row + AT_RADII, number, counts.largest[length]))
+    if (!are_good_radii(row + AT_RADII, number, order_of(row[AT_SELECTOR])->largest[length]))
         return 0;
     return pair_at(row + AT_STEP) != 0 && pair_at(row + AT_PLACES) != 0 && row[AT_SELECTOR] < SELECTORS && row[AT_15] == 0;
 }

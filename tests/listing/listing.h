@@ -96,13 +96,14 @@ void write_sent_case(const char *folder, const struct sent_case *sent);
 #define RECORD(place, row, number, codeword) (uint8_t)((place) >> 8), (uint8_t)(place), row, number, FOUR_BYTES(codeword)
 
 /* Cases of a few bytes, with their listings. Those of the files and of what is taken are in cases/small_cases.c, those
-   of bad tables in cases/table_cases.c, those of what a place shows in cases/place_cases.c, and by the selector of its
-   row in cases/selector_cases.c, and those of a sender in cases/sent_cases.c. */
+   of bad tables in cases/table_cases.c, those of what a place shows in cases/place_cases.c, by the selector of its row
+   in cases/selector_cases.c and with selector 2 in cases/field_cases.c, and those of a sender in cases/sent_cases.c. */
 void make_small_cases(const char *folder);
 void make_table_cases(const char *folder);
 void make_place_cases(const char *folder);
 void make_every_codeword(const char *folder, const char *name, uint8_t selector, const char *text);
 void make_selector_cases(const char *folder);
+void make_field_cases(const char *folder);
 void make_sent_cases(const char *folder);
 
 /* cases/sent_full.c: the case `sent_full` */

@@ -21,7 +21,7 @@ static const char *const call_words[CALLS] = {"index ", "point "};
 /* The lengths of the lists that refusals are: 6 names the distance. */
 static const uint8_t refusals[CALLS][MOST_REFUSAL + 1] = {
     [OF_INDEX] = {[20] = 1, [1] = 1, [2] = 1, [3] = 1, [4] = 1, [5] = 1},
-    [OF_POINT] = {[20] = 1, [1] = 1, [2] = 1, [3] = 1, [4] = 1, [6] = 2},
+    [OF_POINT] = {[20] = 1, [1] = 1, [2] = 1, [3] = 1, [4] = 1, [6] = 2, [15] = 1},
 };
 
 static uint64_t refused[CALLS][MOST_REFUSAL + 1]; /* 0 for what is answered */

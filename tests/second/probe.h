@@ -34,7 +34,7 @@ uint64_t probe_quantize_value(const uint8_t *table, uint64_t table_length, uint6
    the list is 0. A refusal is the list of its number and what the rules name with it: the distance of 6, the row of 7,
    and in the tally the place of 12. In send 11 names the place and then the coordinate. */
 
-/* The list 0, and the point of the index in `out`; or refused 20, 1, 2, 3, 4, 6, and `out` is as it was. */
+/* The list 0, and the point of the index in `out`; or refused 20, 1, 2, 3, 4, 6, 15, and `out` is as it was. */
 uint64_t probe_point(uint64_t selector, uint64_t length, uint64_t radius, uint64_t index, int32_t *out, uint64_t out_length,
                      uint64_t which);
 
@@ -47,8 +47,8 @@ uint64_t probe_collect(const uint8_t *table, uint64_t table_length, uint8_t *pag
                        uint64_t bytes_length);
 
 /* The list 0, answer, reason: the answers are sound, mended, missing, contested and unreadable, from 0 on; the reason
-   is 10 or 14 where the place is unreadable, else 0. The distance of a mended place is the item behind these. `out` has
-   the point, or zeros. Or refused 7, 8, 4, 12, and `out` is as it was. */
+   is 10, 14 or 15 where the place is unreadable, else 0. The distance of a mended place is the item behind these. `out`
+   has the point, or zeros. Or refused 7, 8, 4, 12, and `out` is as it was. */
 uint64_t probe_read(const uint8_t *table, uint64_t table_length, const uint8_t *page, uint64_t page_length, uint64_t place,
                     int32_t *out, uint64_t out_length, uint64_t which);
 

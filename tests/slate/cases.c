@@ -68,6 +68,12 @@ static const uint8_t three_places[] = {3, 2, 0, 2, 0, 0, 0, 0, 0, 0, 1, 0,  0, 2
                                        2, 2, 0, 4, 0, 0, 0, 0, 0, 0, 0, 77, 0, 1, 0, 0};
 enum { PLACES = 3, ROWS = 256, BYTES = 256 };
 
+/* The shells that only the selectors 0 and 1 make usable, each with the largest radius of its length by N. */
+static const struct {
+    uint8_t length;
+    uint8_t radius;
+} totals[] = {{9, 27}, {10, 22}, {13, 15}, {16, 12}};
+
 static void compare_case(const char *call, uint64_t number, uint64_t expected, uint64_t got)
 {
     if (got != expected) {
@@ -116,22 +122,40 @@ static void compare_selectors(void)
     for (int selector = 0; selector < BYTES; selector++) {
         uint8_t page[PLACES * CELL_SIZE] = {0};
         table[ROW_SIZE + AT_SELECTOR] = (uint8_t)selector;
-        compare_case("aldrynja_take, a selector", (uint64_t)selector, selector < 2 ? ALDRYNJA_TAKEN : ALDRYNJA_BAD_TABLE,
+        compare_case("aldrynja_take, a selector", (uint64_t)selector, selector < 3 ? ALDRYNJA_TAKEN : ALDRYNJA_BAD_TABLE,
                      aldrynja_take(table, sizeof table, page, sizeof page, first, sizeof first));
-        compare_case("the state of place 0, a selector", (uint64_t)selector, selector < 2, page[AT_STATE]);
+        compare_case("the state of place 0, a selector", (uint64_t)selector, selector < 3, page[AT_STATE]);
     }
+}
+
+/* A row of one place whose total is above 2^32 with selector 2 alone; with the next smaller radius it is so with none.
+   The record is of place 0. */
+static void compare_totals(void)
+{
+    for (uint64_t i = 0; i < ENTRIES(totals); i++)
+        for (uint8_t selector = 0; selector < 3; selector++)
+            for (uint8_t less = 0; less < 2; less++) {
+                const uint8_t radius = (uint8_t)(totals[i].radius - less);
+                const uint8_t table[ROW_SIZE] = {totals[i].length, 2, 0, radius, 0, 0, 0, 0, 0, 0, 1, 0, 0, 1, selector, 0};
+                uint8_t page[CELL_SIZE] = {0};
+                const int is_bad = selector == 2 && less == 0;
+                compare_case("aldrynja_take, a total", i, is_bad ? ALDRYNJA_BAD_TABLE : ALDRYNJA_TAKEN,
+                             aldrynja_take(table, sizeof table, page, sizeof page, first, sizeof first));
+                compare_case("the state of place 0, a total", i, is_bad ? 0 : 1, page[AT_STATE]);
+            }
 }
 
 void compare_cases(void)
 {
-    compare_case("the version of the header", 0, 3, ALDRYNJA_VERSION);
-    compare_case("aldrynja_version", 0, 3, aldrynja_version());
+    compare_case("the version of the header", 0, 4, ALDRYNJA_VERSION);
+    compare_case("aldrynja_version", 0, 4, aldrynja_version());
     for (uint64_t i = 0; i < ENTRIES(counts); i++)
         compare_case("aldrynja_count", i, counts[i].n, aldrynja_count(counts[i].length, counts[i].radius));
     compare_takes();
     for (uint8_t place = 0; place <= PLACES; place++)
         compare_rows_at(place);
     compare_selectors();
+    compare_totals();
     printf("cases: 1 version, %lu counts, %lu takes, ", ENTRIES(counts), ENTRIES(takes));
-    printf("%d rows at each of %d places, %d selectors\n", ROWS, PLACES + 1, BYTES);
+    printf("%d rows at each of %d places, %d selectors, %lu rows beside 2^32\n", ROWS, PLACES + 1, BYTES, 6 * ENTRIES(totals));
 }

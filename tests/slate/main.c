@@ -8,6 +8,7 @@ enum { SEED = 2026 };
 int main(void)
 {
     count_points();
+    count_for_ranking();
     chance_from(SEED);
     tell_faults();
     compare_counts();

@@ -34,6 +34,7 @@ example =
       refusal-12 = refl;
       refusal-12-at = refl;
       refusal-13 = refl;
+      refusal-15 = refl;
       refusal-20 = refl;
       distance-named = refl;
       row-named = refl;

@@ -23,6 +23,7 @@ meaning (refusal.UnusableCoefficientAt place coordinate) = 11 ∷ place ∷ coor
 meaning refusal.BadCell = 12 ∷ []
 meaning (refusal.BadCellAt place) = 12 ∷ place ∷ []
 meaning refusal.NoSuchCoordinate = 13 ∷ []
+meaning refusal.EmptyShape = 15 ∷ []
 meaning refusal.NoSuchEnumeration = 20 ∷ []
 
 -- the number alone

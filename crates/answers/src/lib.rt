@@ -14,7 +14,7 @@ pub enum Refusal {
     BufferLength,
     // 5: magnitudes don't sum to k
     MagnitudeSum,
-    // 6: index N or more, with its distance
+    // 6: index past the end, with its distance
     IndexPastEnd { distance: u64 },
     // 7: bad pairing table, with the first bad row
     BadTable { row: usize },
@@ -32,7 +32,9 @@ pub enum Refusal {
     BadCellAt { place: usize },
     // 13: coordinate number l or more
     NoSuchCoordinate,
-    // 20: enumeration selector above 1
+    // 15: an empty shape, the index names no point
+    EmptyShape,
+    // 20: enumeration selector above 2
     NoSuchEnumeration,
 }
 
@@ -64,6 +66,7 @@ pub fn in_numbers(refusal: Refusal) -> Numbers
         Refusal::BadCell => Numbers(12, 0, 0, 0),
         Refusal::BadCellAt { place } => Numbers(12, place, 0, 1),
         Refusal::NoSuchCoordinate => Numbers(13, 0, 0, 0),
+        Refusal::EmptyShape => Numbers(15, 0, 0, 0),
         Refusal::NoSuchEnumeration => Numbers(20, 0, 0, 0),
     }
 }

@@ -1,5 +1,6 @@
 -- What the answer of a held record goes by, as the code tests it.
 use Prim.Native.Nat.{ℕ, _^_, _≤_, _<_}
+use mathlib.Core.Bool.{Bool, true, false}
 use mathlib.Core.List.{List}
 use mathlib.Core.Path.{_≡_, refl, _∙_}
 use native.Mathlib.Nat.{lt-of-lt-of-le}
@@ -8,7 +9,7 @@ use Rattle.counts.proofs.Widths.{width-is, width-enough}
 use Rattle.counts.specs.Width.{width}
 use Rattle.records.specs.Record.{radiusNumberIn, codewordIn}
 use Rattle.tables.specs.Row.{radiiOf, radiusAt}
-use Rattle.rules.specs.Judging.{mendedAs, judgeCodeword, judgeIn, judgeRecord}
+use Rattle.rules.specs.Judging.{mendedIndex, mendedAs, judgeCodeword, judgeIn, judgeRecord}
 use Rattle.rules.specs.declared.Judged.{Judged}
 use Rattle.rules.specs.declared.Judged.the-variants as judged
 use Rattle.numbering.specs.declared.inner.Found.{Found}
@@ -19,18 +20,29 @@ use Rattle.cells.specs.declared.inner.judging.Seen.{Seen}
 pub width-to : (total : ℕ) → total ≤ 2 ^ 32 → width total ≤ 32
 width-to total h = width-is total .least 32 h
 
-module _ (total k n : ℕ) where
-  pub codeword-sound : n < total → judged.Sound k n ≡ judgeCodeword total k n
+module _ (names : ℕ → Bool) (total k n : ℕ) where
+  -- below the total, and so below 2^b
+  pub codeword-sound : n < total → names n ≡ true → judged.Sound k n ≡ judgeCodeword names total k n
   unfolding judgeCodeword
-  codeword-sound h = rw (lt-leb (2 ^ width total) n (lt-of-lt-of-le h (width-enough total)), lt-ltb n total h) refl
+  codeword-sound h named = rw (lt-leb (2 ^ width total) n (lt-of-lt-of-le h (width-enough total)), lt-ltb n total h, named) refl
 
-  pub codeword-past : 2 ^ width total ≤ n → judged.Unreadable 14 ≡ judgeCodeword total k n
+  pub codeword-empty : n < total → names n ≡ false → judged.Unreadable 15 ≡ judgeCodeword names total k n
+  unfolding judgeCodeword
+  codeword-empty h empty = rw (lt-leb (2 ^ width total) n (lt-of-lt-of-le h (width-enough total)), lt-ltb n total h, empty) refl
+
+  pub codeword-past : 2 ^ width total ≤ n → judged.Unreadable 14 ≡ judgeCodeword names total k n
   unfolding judgeCodeword
   codeword-past h = rw (le-leb (2 ^ width total) n h) refl
 
-  pub codeword-mended : n < 2 ^ width total → total ≤ n → mendedAs total k n ≡ judgeCodeword total k n
-  unfolding judgeCodeword
-  codeword-mended inside above = rw (lt-leb (2 ^ width total) n inside, le-ltb n total above) refl
+  -- from the total on, and below 2^b
+  module _ (inside : n < 2 ^ width total) (above : total ≤ n) where
+    pub codeword-mended : names (mendedIndex total n) ≡ true → mendedAs total k n ≡ judgeCodeword names total k n
+    unfolding judgeCodeword
+    codeword-mended named = rw (lt-leb (2 ^ width total) n inside, le-ltb n total above, named) refl
+
+    pub codeword-mended-empty : names (mendedIndex total n) ≡ false → judged.Unreadable 15 ≡ judgeCodeword names total k n
+    unfolding judgeCodeword
+    codeword-mended-empty empty = rw (lt-leb (2 ^ width total) n inside, le-ltb n total above, empty) refl
 
 module _ (row y : List ℕ) where
   pub record-10 : radiiOf row ≤ radiusNumberIn y → judged.Unreadable 10 ≡ judgeRecord row y

@@ -4,10 +4,10 @@ use mathlib.Core.List.{List}
 use Rattle.layout.specs.Layout.{Cell}
 use Rattle.rules.proofs.Shows.{judge-shows}
 use Rattle.rules.specs.Judging.{Shows}
-use Rattle.tables.proofs.GoodRow.{row-lawful, row-full}
+use Rattle.tables.proofs.GoodRow.{row-lawful}
 use Rattle.tables.specs.Row.{IsRow}
 use Rattle.cells.specs.Seen.{Sees}
 use Rattle.cells.specs.declared.inner.judging.Seen.{Seen}
 
 pub seen-shows : (row : List ℕ) (c : Cell) {seen : Seen} → IsRow row → Sees row c seen → Shows row (seen .judged)
-seen-shows row c is-row sees = rw (sees .is-judged) (judge-shows row (row-lawful row) (is-row .row-good) c (row-full row))
+seen-shows row c is-row sees = rw (sees .is-judged) (judge-shows row (row-lawful row) (is-row .row-good) c)

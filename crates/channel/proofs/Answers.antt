@@ -8,7 +8,7 @@ use Rattle.answers.specs.Checks.{numberSaid, failsOf}
 use Rattle.answers.proofs.InOrder.{none-of, passes-then}
 use Rattle.tables.specs.Table.{placesIn, tableChecks, Good, rowFor}
 use Rattle.tables.proofs.Good.{good-place}
-use Rattle.tables.proofs.GoodRow.{row-lawful, row-full}
+use Rattle.tables.proofs.GoodRow.{row-lawful}
 use Rattle.layout.specs.Layout.{cellAt}
 use Rattle.rules.specs.Taking.{pageCheck, pageChecks}
 use Rattle.rules.specs.Judging.{judgeAt}
@@ -23,7 +23,7 @@ use Rattle.channel.proofs.Values.{exact-shown}
 pub answers : (t : List ℕ) → Good t → (pg : List ℕ) (p : ℕ) → p < placesIn t → Answers t pg p
 answers t good pg p h =
     let row = rowFor t p in
-    let shows = judge-shows row (row-lawful row) (good-place t p good h .1) (cellAt pg p) (row-full row) in
+    let shows = judge-shows row (row-lawful row) (good-place t p good h .1) (cellAt pg p) in
     record { shows = shows; exact = exact-shown t p (judgeAt t pg p) shows }
 
 each-count : (f : ℕ → ℕ) (n j : ℕ) → j < 5 → getD (countsOf f n) j 0 ≡ countOf f j n

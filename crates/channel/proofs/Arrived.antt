@@ -10,7 +10,7 @@ use Rattle.tables.specs.Table.{placesIn, Good, rowOf, rowFor, lengthFor}
 use Rattle.tables.proofs.Good.{good-place}
 use Rattle.tables.proofs.GoodRow.{row-lawful}
 use Rattle.records.specs.Record.{Holds}
-use Rattle.rules.specs.Judging.{judgeIn, judge, NamesPoint}
+use Rattle.rules.specs.Judging.{indexNames, judgeIn, judge, NamesPoint}
 use Rattle.rules.specs.Taking.{heldCell, grown}
 use Rattle.rules.specs.declared.Judged.the-variants as judged
 use Rattle.cells.proofs.Judging.{codeword-sound, record-judged}
@@ -41,7 +41,7 @@ module _ (t : List ℕ) (good : Good t) (p : ℕ) (h : p < placesIn t) (number :
   held-sound y holds =
       sym (record-judged row y (rw (holds .holds-radius-number) in-row))
       ∙ ap₂ (λ (n c : ℕ). judgeIn row (radiusAt row n) c) (holds .holds-radius-number) (holds .holds-codeword)
-      ∙ sym (codeword-sound (shellTotal row k) k codeword (codeword-names .below))
+      ∙ sym (codeword-sound (indexNames row k) (shellTotal row k) k codeword (codeword-names .below) (codeword-names .named))
 
   pub arrived-sound : (y : List ℕ) → Holds y p (rowOf t p) number codeword → (xs : List (List ℕ)) → OnlyCame t xs p y → SoundWith t (grown t xs) p q
   arrived-sound y holds xs all =

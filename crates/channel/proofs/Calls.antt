@@ -8,7 +8,8 @@ use Rattle.tables.specs.Usable.{shellChecks}
 use Rattle.shell.specs.Shell.{countMeaning, countSays}
 use Rattle.shell.proofs.OneToOne.{count-one-to-one}
 use Rattle.enumeration.specs.Enumerations.{selectedBy}
-use Rattle.points.specs.Calls.{indexChecks, indexMeaning, indexSays, pointChecks, pointMeaning, pointSays}
+use Rattle.indexing.specs.Calls.{indexChecks, indexSays, pointChecks, pointSays}
+use Rattle.points.specs.Meanings.{indexMeaning, pointMeaning}
 use Rattle.points.proofs.OneToOne.{index-one-to-one, point-one-to-one}
 use Rattle.tables.specs.Table.{placesIn, tableChecks, checkSays, rowFor}
 use Rattle.pairing.specs.Meanings.{checkMeaning}

@@ -9,7 +9,7 @@ use lib.ListN.{length}
 use Rattle.answers.specs.Checks.{numberSaid, Check, lengthCheck, pick, firstOf, eachFrom}
 use Rattle.answers.proofs.OneNumber.{OfNumber, each-of, one-number, one-number-last}
 use Rattle.enumeration.specs.Enumerations.{selectedBy}
-use Rattle.points.specs.Calls.{pastEndCheck, pointChecks}
+use Rattle.indexing.specs.Calls.{pastEndCheck, emptyCheck, pointChecks}
 use Rattle.tables.specs.Table.{placesIn, tableChecks, placeCheck, placeChecks, rowOf, rowFor, lengthFor}
 use Rattle.tables.proofs.Seven.{table-of-7}
 use Rattle.records.specs.Record.{recordCheck, placeIn}
@@ -55,7 +55,7 @@ by-table t is same = rw is (grouped 7 (tableChecks t) (table-of-7 t) same)
 
 -- ---- the calls
 pub point-alike : (v l k n b : ℕ) → Alike (pointChecks v l k n b) (pointConditions v l k n b)
-point-alike v l k n b = behind _ (behind _ (behind _ (behind _ (behind _ (grouped-last 6 (pastEndCheck n (selectedBy v .total l k) ∷ []) (refl, tt))))))
+point-alike v l k n b = behind _ (behind _ (behind _ (behind _ (behind _ (grouped 6 (pastEndCheck n (selectedBy v .total l k) ∷ []) (refl, tt) (alike (emptyCheck (selectedBy v) l k n ∷ [])))))))
 
 module _ (t : List ℕ) where
   pub check-alike : Alike (tableChecks t) (withTable t [])

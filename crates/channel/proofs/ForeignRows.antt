@@ -48,7 +48,7 @@ module _ (t pg : List ℕ) (p : ℕ) where
       no-nine (judgeAt t pg p) reasoned (ap (λ (ns : List ℕ). getD ns 2 0) (reader-told t pg p rest numbered (answer ∷ 9 ∷ more) says .1))
 
 -- ---- the tally
-counted : (j : Judged) → Reasoned j → answerNumber j ≡ 4 → (reasonOf j ≡ 10) ⊎ (reasonOf j ≡ 14)
+counted : (j : Judged) → Reasoned j → answerNumber j ≡ 4 → (reasonOf j ≡ 10) ⊎ ((reasonOf j ≡ 14) ⊎ (reasonOf j ≡ 15))
 counted (judged.Sound k n) r e = absurd (omega arith)
 counted (judged.Mended k n d) r e = absurd (omega arith)
 counted judged.Missing r e = absurd (omega arith)
@@ -79,8 +79,11 @@ other-line p row judged.Contested r q same = let letter : _≡_ {A = ℕ} 99 117
 other-line p row (judged.Unreadable reason) (inl ten) q same =
     let digit : _≡_ {A = ℕ} 49 57 = same-after p 4 10 (zeros row) q (rw ten at same) 12 in
     omega arith
-other-line p row (judged.Unreadable reason) (inr fourteen) q same =
+other-line p row (judged.Unreadable reason) (inr (inl fourteen)) q same =
     let digit : _≡_ {A = ℕ} 49 57 = same-after p 4 14 (zeros row) q (rw fourteen at same) 12 in
+    omega arith
+other-line p row (judged.Unreadable reason) (inr (inr fifteen)) q same =
+    let digit : _≡_ {A = ℕ} 49 57 = same-after p 4 15 (zeros row) q (rw fifteen at same) 12 in
     omega arith
 
 pub foreign-rows : ForeignRows

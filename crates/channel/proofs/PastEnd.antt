@@ -16,10 +16,10 @@ use Rattle.counts.specs.Distance.{distance}
 use Rattle.tables.specs.Row.{lengthOf}
 use Rattle.tables.specs.Table.{rowOf, rowFor}
 use Rattle.tables.proofs.Good.{good-place}
-use Rattle.tables.proofs.GoodRow.{row-lawful, row-full}
+use Rattle.tables.proofs.GoodRow.{row-lawful}
 use Rattle.records.specs.Record.{codewordIn}
 use Rattle.layout.specs.Layout.{cellAt}
-use Rattle.points.specs.Calls.{pastEnd, pointChecks, pointSays}
+use Rattle.indexing.specs.Calls.{pastEnd, pointChecks, pointSays}
 use Rattle.rules.specs.Taking.{lookChecks}
 use Rattle.rules.specs.Judging.{judgeAt, shown, pointNamed, Shows, TellsCodeword}
 use Rattle.rules.specs.Reading.{told, pointAt, readRest, readSays, readLeaves, coefficientRest}
@@ -32,7 +32,7 @@ use Rattle.report.specs.Listing.{lineOf, lineAt}
 use Rattle.channel.specs.PastEnd.{mendedSays, TellsReceived, PastEnd}
 use Rattle.channel.proofs.Reading.{reader-told, read-numbered, coefficient-numbered}
 
--- ---- refusal 6: of the checks of point only the last has this number
+-- ---- refusal 6: of the checks of point only one has this number
 refused-by : (v l k n b d : ℕ) → Refuses (pointChecks v l k n b) 6 (d ∷ [])
     → (pastEnd n (selectedBy v .total l k) ≡ true) × (distance (selectedBy v .total l k) n ∷ [] ≡ d ∷ [])
 refused-by v l k n b d (inl h) = absurd (omega (arith, h .1))
@@ -41,7 +41,8 @@ refused-by v l k n b d (inr (_, inr (_, inl h))) = absurd (omega (arith, h .1))
 refused-by v l k n b d (inr (_, inr (_, inr (_, inl h)))) = absurd (omega (arith, h .1))
 refused-by v l k n b d (inr (_, inr (_, inr (_, inr (_, inl h))))) = absurd (omega (arith, h .1))
 refused-by v l k n b d (inr (_, inr (_, inr (_, inr (_, inr (_, inl h)))))) = (h .0, h .2)
-refused-by v l k n b d (inr (_, inr (_, inr (_, inr (_, inr (_, inr h)))))) = absurd (h .1)
+refused-by v l k n b d (inr (_, inr (_, inr (_, inr (_, inr (_, inr (_, inl h))))))) = absurd (omega (arith, h .1))
+refused-by v l k n b d (inr (_, inr (_, inr (_, inr (_, inr (_, inr (_, inr h))))))) = absurd (h .1)
 
 told-index : (v l k n : ℕ) (out : List ℤ) (d : ℕ) → pointSays v l k n out ≡ 6 ∷ d ∷ [] → n ≡ selectedBy v .total l k + d
 unfolding distance
@@ -88,7 +89,7 @@ module _ (t pg : List ℕ) (p : ℕ) (rest : List Check) (numbered : Numbered re
       let place = look-place t pg p (passes-apart (lookChecks t pg p) rest (did .0) .0) in
       let good = good-place t p (place .0) (place .1) .1 in
       let lawful = row-lawful row in
-      let shows = judge-shows row lawful good (cellAt pg p) (row-full row) in
+      let shows = judge-shows row lawful good (cellAt pg p) in
       let tells = judge-tells row lawful good (cellAt pg p) in
       subst (λ (j : Judged). TellsReceived t pg p d (shown row j)) (sym (mended .2))
       (received-as t pg p (mended .0) (mended .1) d (rw (mended .2) at shows) (rw (mended .2) at tells))

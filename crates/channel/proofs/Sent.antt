@@ -5,13 +5,16 @@ use mathlib.Core.Path.{_≡_, refl, sym, ap, _∙_, subst}
 use mathlib.Core.List.{List, List·Memᴰ}
 use lib.Ieee.{Float}
 use lib.IntN.{ℤ}
+use Rattle.counts.specs.Fields.{sizeOf, IsField}
+use Rattle.counts.specs.declared.Field.{Field}
+use Rattle.counts.proofs.Fields.{is-field}
 use Rattle.enumeration.specs.Enumeration.{Enumeration}
-use Rattle.enumeration.specs.Enumerations.{product}
+use Rattle.enumeration.specs.Enumerations.{byField}
 use Rattle.enumeration.specs.Point.{OnShell, nonzerosIn}
 use Rattle.enumeration.specs.Product.{productIndex}
 use Rattle.enumeration.specs.Reading.{productPoint}
 use Rattle.enumeration.specs.Signs.{flipped}
-use Rattle.enumeration.proofs.Product.{index-below, point-of-index, point-on-shell, index-of-point}
+use Rattle.enumeration.proofs.Product.{index-below, index-names, point-of-index, point-on-shell, index-of-point}
 use Rattle.enumeration.proofs.Flips.{sign-theorem}
 use Rattle.tables.specs.Row.{enumerationOf}
 use Rattle.tables.specs.Table.{placesIn, rowOf, rowFor, lengthFor, enumerationFor}
@@ -38,14 +41,19 @@ all-of t p number codeword inside holds xs among equal = record {
   equal = equal;
 }
 
--- a point whose codeword has other sign bits: it is on its shell, and the codeword is its index
-turned : (l k : ℕ) (q : List ℤ) → OnShell l k q → (codeword : ℕ) → productIndex q / 2 ^ nonzerosIn q ≡ codeword / 2 ^ nonzerosIn q
-    → OnShell l k (flipped (productIndex q) codeword q) × (productIndex (flipped (productIndex q) codeword q) ≡ codeword)
-turned l k q on codeword same =
-    let back = point-of-index l k q on in
-    let changed = sign-theorem l k (productIndex q) codeword (index-below l k q on) (rw back same) in
-    let is : productPoint l k codeword ≡ flipped (productIndex q) codeword q = rw back at (changed .1) in
-    (rw is at (point-on-shell l k codeword (changed .0)), rw is at (index-of-point l k codeword (changed .0)))
+-- a point whose codeword has other sign bits, whatever the shape field: it is on its shell, and the codeword is its
+-- index
+turned : (F : ℕ → ℕ → ℕ) → IsField F → (l k : ℕ) (q : List ℤ) → OnShell l k q
+    → (codeword : ℕ) → productIndex F q / 2 ^ nonzerosIn q ≡ codeword / 2 ^ nonzerosIn q
+    → OnShell l k (flipped (productIndex F q) codeword q) × (productIndex F (flipped (productIndex F q) codeword q) ≡ codeword)
+turned F field l k q on codeword same =
+    let n = productIndex F q in
+    let back = point-of-index F field l k q on in
+    let changed = sign-theorem F field l k n codeword (index-below F field l k q on) (index-names F field l k q on) (rw back same) in
+    let is : productPoint F l k codeword ≡ flipped n codeword q = rw back at (changed .2) in (
+      rw is at (point-on-shell F field l k codeword (changed .0) (changed .1)),
+      rw is at (index-of-point F field l k codeword (changed .0) (changed .1)),
+    )
 
 -- a record with the radius number that quantize chose, and any codeword
 module _ (t : List ℕ) (p : ℕ) (w : List Float) (lent : List ℕ) (a : Accepted t p w lent) where
@@ -80,11 +88,11 @@ module _ (t : List ℕ) (p : ℕ) (w : List Float) (lent : List ℕ) (a : Accept
   abbrev e : Enumeration
   e = enumerationFor t p
 
-  turned-sound : e ≡ product → (codeword : ℕ) → e .index point / 2 ^ nonzerosIn point ≡ codeword / 2 ^ nonzerosIn point → (xs : List (List ℕ))
+  turned-sound : (f : Field) → e ≡ byField (sizeOf f) → (codeword : ℕ) → e .index point / 2 ^ nonzerosIn point ≡ codeword / 2 ^ nonzerosIn point → (xs : List (List ℕ))
       → Came codeword xs → SoundWith t (grown t xs) p (flipped (e .index point) codeword point)
-  turned-sound lowest codeword same xs came =
-      let other = flipped (productIndex point) codeword point in
-      let is = turned l k point on-shell codeword (rw lowest at same) in
+  turned-sound f lowest codeword same xs came =
+      let other = flipped (productIndex (sizeOf f) point) codeword point in
+      let is = turned (sizeOf f) (is-field f) l k point on-shell codeword (rw lowest at same) in
       let index : e .index other ≡ codeword = ap (λ (f : Enumeration). f .index other) lowest ∙ is .1 in
       rw lowest (came-sound other (is .0) xs (rw index came))
 
@@ -101,6 +109,7 @@ unfolding recordOf
 only-signs-change t p w r q sent lowest codeword same xs among equal =
     let a = accepts t p w (sent .lent) (sent .accepted) in
     let is : withCodeword r codeword ≡ withCodeword (recordFor t p w) codeword = ap (λ (u : List ℕ). withCodeword u codeword) (sym (sent .written) ∙ a .leaves) in
+    let by = signs-lowest (rowFor t p) lowest in
     rw (sent .point) at
-    (turned-sound t p w (sent .lent) a (signs-lowest (rowFor t p) lowest) codeword (rw (sent .point) same) xs
+    (turned-sound t p w (sent .lent) a (by .0) (by .1) codeword (rw (sent .point) same) xs
     (subst (λ (u : List ℕ). List·Memᴰ u xs) is among, λ x m f. equal x m f ∙ is))

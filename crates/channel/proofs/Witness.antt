@@ -9,11 +9,12 @@ use lib.Dec.{lit<}
 use lib.ListN.{replicate}
 use native.Mathlib.Omega.{arith}
 use Rattle.counts.specs.Counts.{N, binomial, D, S, B, sumAfter, rangeSize, rangeStart}
+use Rattle.counts.specs.Fields.{fieldTotal}
 use Rattle.counts.specs.Distance.{distance}
 use Rattle.counts.specs.Width.{width, bitsFrom}
 use Rattle.enumeration.specs.Product.{patternIndex, shapeOffset, shapeIndex, signIndex, indexFrom, productIndex}
 use Rattle.enumeration.specs.Among.{firstAmong, leftAmong}
-use Rattle.enumeration.specs.Reading.{rangeFrom, rangeOf, patternOf, shapeOf, signsOf, pointFrom, pointWithin, productPoint}
+use Rattle.enumeration.specs.Reading.{rangeFrom, rangeOf, patternOf, shapeOf, signsOf, pointFrom, pointWithin, productPoint, namesWithin, productNames}
 use Rattle.floats.specs.Exact.{over256}
 use Rattle.floats.specs.Nearest.{nearestWhole}
 use Rattle.floats.specs.Units.{ofPattern, unitsOf, unusableCoefficient, negative}
@@ -60,13 +61,13 @@ each-byte n h (suc i) = lit< tt
 
 -- both places of the table
 each-sent : PageSent wholeCase (λ p. vector) (λ p. of p 0 1 5) (λ p. sent)
-unfolding toBits lt N binomial D S B sumAfter rangeSize rangeStart patternIndex shapeOffset shapeIndex signIndex indexFrom productIndex nearestWhole ofPattern unitsOf unusableCoefficient negative byteOf selectedBy enumerationOf badRadius badRadii badRow rowAt placesBefore rowsBefore firstBest largest give shared recordOf chosenRadiusNumber
+unfolding toBits lt N binomial D S B sumAfter rangeSize rangeStart fieldTotal patternIndex shapeOffset shapeIndex signIndex indexFrom productIndex nearestWhole ofPattern unitsOf unusableCoefficient negative byteOf selectedBy enumerationOf badRadius badRadii badRow rowAt placesBefore rowsBefore firstBest largest give shared recordOf chosenRadiusNumber
 each-sent zero h = record { lent = replicate 8 9; accepted = refl; written = refl; point = refl }
 each-sent (suc zero) h = record { lent = replicate 8 9; accepted = refl; written = refl; point = refl }
 each-sent (suc (suc p)) h = absurd (omega arith)
 
 pub witness : Witness
-unfolding onlyClaims claims toBits round lt N binomial D S B sumAfter rangeSize rangeStart distance width bitsFrom patternIndex shapeOffset shapeIndex signIndex indexFrom productIndex rangeFrom rangeOf patternOf firstAmong leftAmong shapeOf signsOf pointFrom pointWithin productPoint over256 nearestWhole ofPattern unitsOf unusableCoefficient negative byteOf selectedBy enumerationOf badRadius badRadii badRow rowAt placesBefore rowsBefore firstBest largest give shared recordOf chosenRadiusNumber stateAt recordAt setCell badCell takeCell arrive after judgeCodeword judgeRecord judge
+unfolding onlyClaims claims toBits round lt N binomial D S B sumAfter rangeSize rangeStart fieldTotal distance width bitsFrom patternIndex shapeOffset shapeIndex signIndex indexFrom productIndex rangeFrom rangeOf patternOf firstAmong leftAmong shapeOf signsOf pointFrom pointWithin productPoint namesWithin productNames over256 nearestWhole ofPattern unitsOf unusableCoefficient negative byteOf selectedBy enumerationOf badRadius badRadii badRow rowAt placesBefore rowsBefore firstBest largest give shared recordOf chosenRadiusNumber stateAt recordAt setCell badCell takeCell arrive after judgeCodeword judgeRecord judge
 witness = record {
   is-sent = record { lent = replicate 8 9; accepted = refl; written = refl; point = refl };
   is-read = record {

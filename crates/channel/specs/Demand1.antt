@@ -14,7 +14,10 @@ use Rattle.counts.specs.Counts.{N}
 use Rattle.enumeration.specs.Enumerations.{selectedBy}
 use Rattle.tables.specs.Usable.{shellChecks}
 use Rattle.shell.specs.Shell.{countMeaning, countSays}
-use Rattle.points.specs.Calls.{selectedChecks, indexChecks, indexMeaning, indexSays, pastEndCheck, pointChecks, pointMeaning, pointSays, pointLeaves}
+use Rattle.indexing.specs.Calls.{selectedChecks, pastEndCheck, emptyCheck, indexChecks, indexSays}
+use Rattle.points.specs.Meanings.{indexMeaning}
+use Rattle.indexing.specs.Calls.{pointChecks, pointSays, pointLeaves}
+use Rattle.points.specs.Meanings.{pointMeaning}
 use Rattle.tables.specs.Table.{placesIn, tableChecks, checkSays, placeCheck, rowOf, rowFor, lengthFor}
 use Rattle.pairing.specs.Meanings.{checkMeaning}
 use Rattle.records.specs.Record.{recordCheck, placeIn}
@@ -41,7 +44,12 @@ numbersOf cs = map (λ (c : Check). c .number) cs
 
 -- the conditions of point
 abbrev pub pointConditions : ℕ → ℕ → ℕ → ℕ → ℕ → List Check
-pointConditions v l k n b = selectedChecks v l k ++ lengthCheck b l ∷ condition 6 (pastEndCheck n (selectedBy v .total l k) ∷ []) ∷ []
+pointConditions v l k n b =
+    selectedChecks v l k
+    ++ lengthCheck b l
+    ∷ condition 6 (pastEndCheck n (selectedBy v .total l k) ∷ [])
+    ∷ emptyCheck (selectedBy v) l k n
+    ∷ []
 
 -- the conditions of a call whose checks begin with those of its table, 7, and what each call checks after them: 4
 -- is given for any buffer of a wrong length, 11 for any coefficient, and 12 for any cell
@@ -122,9 +130,9 @@ pub record Demand1 : Type 0 where
   -- Index: 20, 1, 2, 3, 4, 5
   pub index : (v l k : ℕ) (x : List ℤ) → Refusing (20 ∷ 1 ∷ 2 ∷ 3 ∷ 4 ∷ 5 ∷ []) (indexChecks v l k x) (indexChecks v l k x) (indexSays v l k x)
   pub index-determined : (v l k : ℕ) (x : List ℤ) → Determined indexMeaning (indexSays v l k x)
-  -- Point: 20, 1, 2, 3, 4, 6
+  -- Point: 20, 1, 2, 3, 4, 6, 15
   pub point : (v l k n : ℕ) (out : List ℤ)
-      → Refusing (20 ∷ 1 ∷ 2 ∷ 3 ∷ 4 ∷ 6 ∷ []) (pointConditions v l k n (length out)) (pointChecks v l k n (length out)) (pointSays v l k n out)
+      → Refusing (20 ∷ 1 ∷ 2 ∷ 3 ∷ 4 ∷ 6 ∷ 15 ∷ []) (pointConditions v l k n (length out)) (pointChecks v l k n (length out)) (pointSays v l k n out)
   pub point-unchanged : (v l k n : ℕ) (out : List ℤ) → Unchanged (pointSays v l k n out) (pointLeaves v l k n out) out
   pub point-determined : (v l k n : ℕ) (out : List ℤ) → Determined pointMeaning (pointSays v l k n out)
   -- the check of a table: 7

@@ -4,21 +4,26 @@ use Prim.Native.Nat.{ℕ, suc, _*_, _^_, _≤_, _<_, _∣_}
 use mathlib.Core.Path.{_≡_}
 use mathlib.Core.List.{List, [], _∷_, _++_}
 use mathlib.Core.Bool.{true, false}
-use lib.Dec.{eqb}
+use lib.Dec.{eqb, ltb}
 use lib.Ieee.{Float, nan}
 use lib.IntN.{ℤ, pos}
 use lib.ListN.{length, getD}
 use Rattle.answers.specs.Checks.{numberSaid}
-use Rattle.counts.specs.Counts.{N, R, O, mostNonzero, sumAfter}
+use Rattle.counts.specs.Counts.{N, D, S, R, mostNonzero, sumAfter, rangeStart}
+use Rattle.counts.specs.Fields.{bitField, sizeOf}
+use Rattle.counts.specs.Width.{width}
+use Rattle.counts.specs.declared.Field.{Field}
 use Rattle.enumeration.specs.Point.{OnShell, isNonzero, isNegative, nonzerosIn, sumOf}
-use Rattle.enumeration.specs.Enumerations.{product, magnitude, selectedBy, selectsNone}
+use Rattle.enumeration.specs.Enumerations.{product, magnitude, productProduct, selectedBy, selectsNone}
 use Rattle.enumeration.specs.Magnitude.{OffsetsAgree}
-use Rattle.enumeration.specs.Product.{productIndex}
+use Rattle.enumeration.specs.Product.{indexFrom}
 use Rattle.enumeration.specs.Reading.{bit}
-use Rattle.points.specs.Calls.{indexSays, pointSays, pointLeaves}
+use Rattle.enumeration.specs.Signs.{signsLowest}
+use Rattle.indexing.specs.Calls.{indexSays, pointSays, pointLeaves}
 use Rattle.floats.specs.Exact.{IsOver256}
 use Rattle.floats.specs.Nearest.{nearestWhole, IsNearest}
 use Rattle.floats.specs.Units.{unitsOf}
+use Rattle.tables.specs.Largest.{OnlyLost}
 use Rattle.tables.specs.Usable.{IsUsable}
 use Rattle.tables.specs.Row.{radiiOf, radiusAt}
 use Rattle.tables.specs.Table.{placesIn, Good, rowOf, rowFor, lengthFor, enumerationFor, InRow}
@@ -34,19 +39,42 @@ use Rattle.channel.specs.Demand3.{Bytes, scaled}
 
 -- ---- counts, indices and points
 pub record NumbersPoints (v l k : ℕ) : Type 0 where
-  -- there are N indices
-  pub many : selectedBy v .total l k ≡ N l k
-  -- a point of the shell has an index below N, and the point of that index is it
-  pub there : (x : List ℤ) → OnShell l k x → (selectedBy v .index x < N l k) × (selectedBy v .point l k (selectedBy v .index x) ≡ x)
-  -- an index below N gives a point of the shell, and its index is that number
-  pub back : (n : ℕ) → n < N l k → OnShell l k (selectedBy v .point l k n) × (selectedBy v .index (selectedBy v .point l k n) ≡ n)
+  -- a point of the shell has an index below the total, which names it, and the point of that index is it
+  pub there : (x : List ℤ) → OnShell l k x
+      → (selectedBy v .index x < selectedBy v .total l k) × (selectedBy v .names l k (selectedBy v .index x) ≡ true)
+      × (selectedBy v .point l k (selectedBy v .index x) ≡ x)
+  -- an index below the total that names a point gives one of the shell, and its index is that number
+  pub back : (n : ℕ) → n < selectedBy v .total l k → selectedBy v .names l k n ≡ true
+      → OnShell l k (selectedBy v .point l k n) × (selectedBy v .index (selectedBy v .point l k n) ≡ n)
+  -- an index that names none is that of no point
+  pub none : (n : ℕ) → selectedBy v .names l k n ≡ false → (x : List ℤ) → OnShell l k x → selectedBy v .index x ≡ n → ⊥
 
--- the selectors are those of the product enumeration and of the magnitude enumeration
+-- by the selectors 0 and 1 there are N indices, and each names a point
+pub record AllNamed (v l k : ℕ) : Type 0 where
+  pub many : selectedBy v .total l k ≡ N l k
+  pub named : (n : ℕ) → n < N l k → selectedBy v .names l k n ≡ true
+
+-- By selector 2, at a radius above 0, there are as many indices as equation 28 says; each is made of a pattern, a field
+-- of bits and signs, as equation 30 says, and names a point exactly where the field is below S.
+pub record InBits (l k : ℕ) : Type 0 where
+  pub many : selectedBy 2 .total l (suc k) ≡ sumAfter (λ s. D s l * 2 ^ width (S s (suc k)) * 2 ^ s) 0 (mostNonzero l (suc k))
+  pub made : (s pattern shape sign : ℕ) → 0 < s → s ≤ mostNonzero l (suc k) → pattern < D s l → shape < 2 ^ width (S s (suc k)) → sign < 2 ^ s
+      → (indexFrom bitField s l (suc k) pattern shape sign < selectedBy 2 .total l (suc k))
+      × (selectedBy 2 .names l (suc k) (indexFrom bitField s l (suc k) pattern shape sign) ≡ ltb shape (S s (suc k)))
+
+-- the selectors are those of the product, the magnitude and the product-product enumeration
 pub record Enumerations : Type 0 where
   pub selector-0 : selectedBy 0 ≡ product
   pub selector-1 : selectedBy 1 ≡ magnitude
-  -- O(s) is a multiple of 2^(s+1): that is why the ranges of the product enumeration run downward
-  pub ranges : (l k s : ℕ) → 2 ^ suc s ∣ O s l k
+  pub selector-2 : selectedBy 2 ≡ productProduct
+  pub all-named : (v : ℕ) → v ≤ 1 → (l k : ℕ) → AllNamed v l k
+  pub in-bits : (l k : ℕ) → InBits l k
+  -- of the shells that N makes usable four have too many indices by selector 2, and no other has
+  pub lost : OnlyLost
+  -- radius 0 has one index by each
+  pub one-at-0 : (v l : ℕ) → selectedBy v .total l 0 ≡ 1
+  -- O(s) is a multiple of 2^(s+1), with either shape field: that is why the ranges run downward
+  pub ranges : (f : Field) (l k s : ℕ) → 2 ^ suc s ∣ rangeStart (sizeOf f) s l k
   -- the offsets of the magnitude enumeration are the sums that the paper begins with
   pub offsets : OffsetsAgree
 
@@ -54,19 +82,22 @@ pub record Enumerations : Type 0 where
 abbrev pub CountsSum : Type 0
 CountsSum = (l k : ℕ) → N l (suc k) ≡ sumAfter (λ s. R s l (suc k)) 0 (mostNonzero l (suc k))
 
--- bit j of a product index is that of the nonzero coordinate which has exactly j nonzero coordinates after it, 1 for
--- negative
+-- where the signs are lowest, bit j of an index is that of the nonzero coordinate which has exactly j nonzero
+-- coordinates after it, 1 for negative
 abbrev pub BitOfCoordinate : Type 0
-BitOfCoordinate = (before : List ℤ) (c : ℤ) (after : List ℤ) → isNonzero c ≡ true
-    → eqb (bit (nonzerosIn after) (productIndex (before ++ c ∷ after))) 1 ≡ isNegative c
+BitOfCoordinate = (v : ℕ) → signsLowest v ≡ true → (before : List ℤ) (c : ℤ) (after : List ℤ) → isNonzero c ≡ true
+    → eqb (bit (nonzerosIn after) (selectedBy v .index (before ++ c ∷ after))) 1 ≡ isNegative c
 
 -- so the calls index and point undo each other in every usable shell, with any lent buffer of the right length
 pub record CallsUndo (v l k : ℕ) : Type 0 where
   pub there : (x out : List ℤ) → OnShell l k x → length out ≡ l
       → (indexSays v l k x ≡ 0 ∷ selectedBy v .index x ∷ []) × (pointSays v l k (selectedBy v .index x) out ≡ 0 ∷ [])
       × (pointLeaves v l k (selectedBy v .index x) out ≡ x)
-  pub back : (n : ℕ) (out : List ℤ) → n < N l k → length out ≡ l
+  pub back : (n : ℕ) (out : List ℤ) → n < selectedBy v .total l k → selectedBy v .names l k n ≡ true → length out ≡ l
       → (pointSays v l k n out ≡ 0 ∷ []) × (indexSays v l k (pointLeaves v l k n out) ≡ 0 ∷ n ∷ [])
+  -- and an index that names no point is refused as an empty shape
+  pub none : (n : ℕ) (out : List ℤ) → n < selectedBy v .total l k → selectedBy v .names l k n ≡ false → length out ≡ l
+      → pointSays v l k n out ≡ 15 ∷ []
 
 -- ---- records
 -- What quantize writes for w at place p, if it accepts them: the record r.
@@ -114,7 +145,7 @@ pub record Demand2 : Type 0 where
   pub enumerations : Enumerations
   pub numbering : (v l k : ℕ) → NumbersPoints v l k
   pub bits : BitOfCoordinate
-  pub calls-undo : (v l k : ℕ) → selectsNone v ≡ false → IsUsable l k (N l k) → CallsUndo v l k
+  pub calls-undo : (v l k : ℕ) → selectsNone v ≡ false → IsUsable l k (selectedBy v .total l k) → CallsUndo v l k
   pub quantize-writes : QuantizeWrites
   pub answers : (t : List ℕ) → Good t → (pg : List ℕ) (p : ℕ) → p < placesIn t → Answers t pg p
   pub tallies : (t pg : List ℕ) → numberSaid (tallySays t pg) ≡ 0 → Tallies t pg

@@ -28,7 +28,8 @@ pub record ForeignRows : Type 0 where
   -- neither reader gives the reason 9
   pub read : (t pg : List ℕ) (p : ℕ) (out : List ℤ) → TellsNine (readSays t pg p out) → ⊥
   pub coefficient : (t pg : List ℕ) (p i : ℕ) → TellsNine (coefficientSays t pg p i) → ⊥
-  -- what the tally counts as unreadable has the reason 10 or 14
-  pub tally : (t pg : List ℕ) (p : ℕ) → answerAt t pg p ≡ 4 → (reasonOf (judgeAt t pg p) ≡ 10) ⊎ (reasonOf (judgeAt t pg p) ≡ 14)
+  -- what the tally counts as unreadable has the reason 10, 14 or 15
+  pub tally : (t pg : List ℕ) (p : ℕ) → answerAt t pg p ≡ 4
+      → (reasonOf (judgeAt t pg p) ≡ 10) ⊎ ((reasonOf (judgeAt t pg p) ≡ 14) ⊎ (reasonOf (judgeAt t pg p) ≡ 15))
   -- and no line says `unreadable 9`
   pub line : (t pg : List ℕ) (p : ℕ) (q : List ℤ) → lineAt t pg p ≡ placeText p 4 9 q → ⊥

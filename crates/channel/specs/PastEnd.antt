@@ -11,7 +11,7 @@ use Rattle.tables.specs.Row.{shellTotal}
 use Rattle.tables.specs.Table.{rowFor, enumerationFor}
 use Rattle.records.specs.Record.{codewordIn}
 use Rattle.layout.specs.Layout.{cellAt}
-use Rattle.points.specs.Calls.{pointSays}
+use Rattle.indexing.specs.Calls.{pointSays}
 use Rattle.rules.specs.Judging.{Mends}
 use Rattle.rules.specs.Reading.{pointAt, readSays, readLeaves, coefficientSays}
 use Rattle.text.specs.Text.{placeText}
@@ -21,12 +21,12 @@ use Rattle.report.specs.Listing.{lineAt}
 abbrev pub mendedSays : ℕ → List ℕ
 mendedSays d = 0 ∷ 1 ∷ 0 ∷ d ∷ []
 
--- N of the shell that q is of, in the row of the place
+-- the total of the shell that q is of, in the row of the place
 abbrev pub totalShown : List ℕ → ℕ → List ℤ → ℕ
 totalShown t p q = shellTotal (rowFor t p) (radiusOf q)
 
--- The distance d and the point q are shown: with N and b those of the shell of q, d is below 2^b - N, the index of q
--- plus 2^(b-1) is N plus d, and that is the codeword in the cell.
+-- The distance d and the point q are shown: with T and b the total and the width of the shell of q, d is below 2^b - T,
+-- the index of q plus 2^(b-1) is T plus d, and that is the codeword in the cell.
 abbrev pub TellsReceived : List ℕ → List ℕ → ℕ → ℕ → List ℤ → Type 0
 TellsReceived t pg p d q = Mends (totalShown t p q) (codewordIn (cellAt pg p .bytes)) (enumerationFor t p .index q) d
 

@@ -3,10 +3,11 @@ use mathlib.Core.Path.{refl}
 use Rattle.counts.specs.Counts.{N, binomial, D, S, B, sumAfter, rangeSize, rangeStart}
 use Rattle.counts.specs.Width.{width, bitsFrom}
 use Rattle.counts.specs.Distance.{distance}
+use Rattle.counts.specs.Fields.{bitField, fieldTotal}
 use Rattle.counts.specs.Example.{Example}
 
 pub example : Example
-unfolding N binomial D S B sumAfter rangeSize rangeStart width bitsFrom distance
+unfolding N binomial D S B sumAfter rangeSize rangeStart width bitsFrom distance bitField fieldTotal
 example =
     record {
       none-0 = refl;
@@ -40,4 +41,24 @@ example =
       width-largest = refl;
       distance-18 = refl;
       distance-20 = refl;
+      field-2-4 = refl;
+      field-2-5 = refl;
+      field-3-5 = refl;
+      field-1-5 = refl;
+      field-exact = refl;
+      field-bits = refl;
+      bits-size-4 = refl;
+      bits-size-3 = refl;
+      bits-size-2 = refl;
+      bits-size-1 = refl;
+      bits-start-4 = refl;
+      bits-start-3 = refl;
+      bits-start-2 = refl;
+      bits-start-1 = refl;
+      bits-total-4-6 = refl;
+      total-4-6 = refl;
+      total-2-4 = refl;
+      bits-total-2-4 = refl;
+      total-2-0 = refl;
+      bits-total-2-0 = refl;
     }

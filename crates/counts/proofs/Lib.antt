@@ -5,6 +5,7 @@ pub mod Upper
 pub mod Volume
 pub mod Ranges
 pub mod Widths
+pub mod Fields
 pub mod Growth
 pub mod FirstCoordinate
 pub mod Example

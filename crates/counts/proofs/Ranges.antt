@@ -1,19 +1,20 @@
--- The ranges of the product index, from s = m downward (eq. 26), for all lengths and radii:
+-- The ranges of a shell, from s = m downward (eq. 26 and 29), whatever shape field F they have, for all lengths and
+-- radii:
 --     range-next, range-last     the start for s is the start for s+1 and that range's size; from m on it is 0
 --     range-down                 the same from s to s-1, as a descending loop goes
 --     range-multiple             O(s) is a multiple of 2^(s+1): below a range's start the signs' s bits, and one
 --                                more, are 0
---     start-bound, end-bound     a range ends within N
--- All but the bounds hold whatever shape field the ranges have.
+--     starts-down                a range with a smaller s starts no earlier
+--     end-bound                  a range ends within the total
 use Prim.Native.Nat.{ℕ, zero, suc, _+_, _-_, _*_, _^_, _≤_, _<_, _∣_}
 use mathlib.Core.Path.{_≡_, sym, ap, _∙_}
 use native.Mathlib.Omega.{arith}
-use native.Mathlib.Decide.{decLt}
-use native.Mathlib.Nat.{dvd-trans, dvd-mul-left, dvd-mul-right}
+use native.Mathlib.Decide.{le-ind}
+use native.Mathlib.Nat.{le-refl, dvd-trans, dvd-mul-left, dvd-mul-right}
 use lib.Pow.{pow-add}
-use Rattle.counts.specs.Counts.{N, D, S, B, mostNonzero, sumAfter, rangeSize, rangeStart, R, O}
+use Rattle.counts.specs.Counts.{D, B, mostNonzero, sumAfter, rangeSize, rangeStart}
+use Rattle.counts.specs.Fields.{fieldTotal}
 use Rattle.counts.proofs.Sums.{sum-first, sum-multiple}
-use Rattle.counts.proofs.Volume.{volume, R-past}
 
 module _ (F : ℕ → ℕ → ℕ) (l k : ℕ) where
   pub range-next : (s : ℕ) → s < mostNonzero l k → rangeStart F s l k ≡ rangeSize F (suc s) l k + rangeStart F (suc s) l k
@@ -44,18 +45,16 @@ module _ (F : ℕ → ℕ → ℕ) (l k : ℕ) where
           let apart : 2 ^ i ≡ 2 ^ suc s * 2 ^ (i - suc s) = ap (λ (x : ℕ). 2 ^ x) (sym whole) ∙ pow-add 2 (suc s) (i - suc s) in
           dvd-trans (2 ^ suc s) (rw apart (dvd-mul-right (2 ^ suc s) (2 ^ (i - suc s)))) (dvd-mul-left (2 ^ i) (D i l * F i k))
 
-pub start-bound : (l k s : ℕ) → O s l k ≤ N l k
-start-bound l k zero = omega (arith, volume l k)
-start-bound l k (suc s) = go (decLt s (mostNonzero l k)) (start-bound l k s)
-  where
-    go : Dec (s < mostNonzero l k) → O s l k ≤ N l k → O (suc s) l k ≤ N l k
-    go (yes h) b = omega (arith, range-next S l k s h)
-    go (no h) b = omega (arith, range-last S l k (suc s) (omega arith))
+  -- a range with a smaller s starts no earlier
+  pub starts-down : (s t : ℕ) → s ≤ t → t ≤ mostNonzero l k → rangeStart F t l k ≤ rangeStart F s l k
+  starts-down s t h q = le-ind (λ (u : ℕ). u ≤ mostNonzero l k → rangeStart F u l k ≤ rangeStart F s l k) (λ p. le-refl (rangeStart F s l k)) down t h q
+    where
+      down : (u : ℕ) → s ≤ u → (u ≤ mostNonzero l k → rangeStart F u l k ≤ rangeStart F s l k) → suc u ≤ mostNonzero l k
+          → rangeStart F (suc u) l k ≤ rangeStart F s l k
+      down u p e r = omega (arith, e (omega arith), range-next u r)
 
-pub end-bound : (l k s : ℕ) → O s l k + R s l k ≤ N l k
-end-bound l k zero = omega (arith, volume l k)
-end-bound l k (suc s) = go (decLt s (mostNonzero l k))
-  where
-    go : Dec (s < mostNonzero l k) → O (suc s) l k + R (suc s) l k ≤ N l k
-    go (yes h) = omega (arith, range-next S l k s h, start-bound l k s)
-    go (no h) = omega (arith, range-last S l k (suc s) (omega arith), R-past l k (suc s) (omega arith))
+-- a range from 1 on ends within the total
+pub end-bound : (F : ℕ → ℕ → ℕ) (l k s : ℕ) → 0 < s → s ≤ mostNonzero l k → rangeStart F s l k + rangeSize F s l k ≤ fieldTotal F l k
+unfolding fieldTotal
+end-bound F l zero s p h = absurd (omega arith)
+end-bound F l (suc k) s p h = omega (arith, range-down F l (suc k) s p h, starts-down F l (suc k) 0 (s - 1) (omega arith) (omega arith))

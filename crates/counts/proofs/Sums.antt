@@ -3,9 +3,11 @@
 --     sum-first, sum-shift    the lowest term taken off; the same terms counted one lower
 --     sum-none, sum-cut       terms that are 0 add nothing
 --     sum-multiple            a common divisor of the terms
-use Prim.Native.Nat.{ℕ, zero, suc, _+_, _<_, _∣_}
+--     sum-grows               larger terms, and more of them
+use Prim.Native.Nat.{ℕ, zero, suc, _+_, _≤_, _<_, _∣_}
 use mathlib.Core.Path.{_≡_, refl, ap, ap₂}
-use native.Mathlib.Nat.{add-zero, add-suc, suc-add, dvd-zero, dvd-add}
+use native.Mathlib.Nat.{le-trans, add-zero, add-suc, suc-add, dvd-zero, dvd-add}
+use native.Mathlib.Decide.{le-ind}
 use native.Mathlib.Omega.{arith}
 use Rattle.counts.specs.Counts.{sumAfter}
 
@@ -44,3 +46,16 @@ pub sum-multiple : (d : ℕ) (f : ℕ → ℕ) (s n : ℕ) → ((i : ℕ) → s 
 unfolding sumAfter
 sum-multiple d f s zero h = dvd-zero d
 sum-multiple d f s (suc n) h = dvd-add d (h (suc (s + n)) (omega arith)) (sum-multiple d f s n h)
+
+sum-terms : (f g : ℕ → ℕ) → ((i : ℕ) → 0 < i → f i ≤ g i) → (s n : ℕ) → sumAfter f s n ≤ sumAfter g s n
+unfolding sumAfter
+sum-terms f g h s zero = omega arith
+sum-terms f g h s (suc n) = omega (arith, h (suc (s + n)) (omega arith), sum-terms f g h s n)
+
+pub sum-grows : (f g : ℕ → ℕ) → ((i : ℕ) → 0 < i → f i ≤ g i) → (s n m : ℕ) → n ≤ m → sumAfter f s n ≤ sumAfter g s m
+unfolding sumAfter
+sum-grows f g h s n m q =
+    le-ind (λ (u : ℕ). sumAfter f s n ≤ sumAfter g s u) (sum-terms f g h s n) (λ u r e. le-trans e (next u)) m q
+  where
+    next : (u : ℕ) → sumAfter g s u ≤ sumAfter g s (suc u)
+    next u = omega arith

@@ -41,8 +41,8 @@ sumAfter f s zero = 0
 sumAfter f s (suc n) = f (suc (s + n)) + sumAfter f s n
 
 -- A range holds the points with s nonzero coordinates. Where each of its shapes has one of F(s,k) numbers it has D
--- x F x 2^s, and it starts at the sum of the sizes for s+1 to m (eq. 26). The product index gives each shape its
--- own number: F is S.
+-- x F x 2^s, and it starts at the sum of the sizes for s+1 to m (eq. 26, and eq. 29, where every term is by the summed
+-- number i). Which F there are is in specs/Fields.antt.
 unfoldable pub rangeSize : (ℕ → ℕ → ℕ) → ℕ → ℕ → ℕ → ℕ
 rangeSize F s l k = D s l * F s k * B s
 

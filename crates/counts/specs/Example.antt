@@ -1,9 +1,11 @@
--- Small counts, written out: the triangle, the ranges of length 3 and radius 4, widths, and distances.
+-- Small counts, written out: the triangle, the ranges of length 3 and radius 4, widths, distances, and fields of bits.
 -- proofs/Example.antt computes every line.
 use mathlib.Core.Path.{_≡_}
-use Rattle.counts.specs.Counts.{N, binomial, D, S, B, R, O}
+use Rattle.counts.specs.Counts.{N, binomial, D, S, B, R, O, rangeSize, rangeStart}
 use Rattle.counts.specs.Width.{width}
 use Rattle.counts.specs.Distance.{distance}
+use Rattle.counts.specs.Fields.{bitField, sizeOf, fieldTotal}
+use Rattle.counts.specs.declared.Field.the-variants as field
 
 pub record Example : Type 0 where
   -- N(l,0) = 1 for every l, N(0,k) = 0 for k above 0; a length is never taken for a radius
@@ -43,3 +45,27 @@ pub record Example : Type 0 where
   -- the first index past the end of 18 points has the distance 0
   pub distance-18 : distance 18 18 ≡ 0
   pub distance-20 : distance 18 20 ≡ 2
+  -- a field of bits: S(2,4) is 3, S(2,5) is 4, S(3,5) is 6
+  pub field-2-4 : bitField 2 4 ≡ 4
+  pub field-2-5 : bitField 2 5 ≡ 4
+  pub field-3-5 : bitField 3 5 ≡ 8
+  pub field-1-5 : bitField 1 5 ≡ 1
+  pub field-exact : sizeOf field.Exact 2 4 ≡ 3
+  pub field-bits : sizeOf field.Bits 2 4 ≡ 4
+  -- with it the ranges for s = 4, 3, 2 and 1 of length 4 and radius 6 are larger: 10, 10, 5 and 1 shapes become 16, 16,
+  -- 8 and 1
+  pub bits-size-4 : rangeSize bitField 4 4 6 ≡ 256
+  pub bits-size-3 : rangeSize bitField 3 4 6 ≡ 512
+  pub bits-size-2 : rangeSize bitField 2 4 6 ≡ 192
+  pub bits-size-1 : rangeSize bitField 1 4 6 ≡ 8
+  pub bits-start-4 : rangeStart bitField 4 4 6 ≡ 0
+  pub bits-start-3 : rangeStart bitField 3 4 6 ≡ 256
+  pub bits-start-2 : rangeStart bitField 2 4 6 ≡ 768
+  pub bits-start-1 : rangeStart bitField 1 4 6 ≡ 960
+  pub bits-total-4-6 : fieldTotal bitField 4 6 ≡ 968
+  pub total-4-6 : fieldTotal S 4 6 ≡ 608
+  -- length 2 and radius 4 has 16 points, and 20 indices with a field of bits; radius 0 has one index with either
+  pub total-2-4 : fieldTotal S 2 4 ≡ 16
+  pub bits-total-2-4 : fieldTotal bitField 2 4 ≡ 20
+  pub total-2-0 : fieldTotal S 2 0 ≡ 1
+  pub bits-total-2-0 : fieldTotal bitField 2 0 ≡ 1

@@ -1,4 +1,5 @@
 pub mod Counts
 pub mod Width
 pub mod Distance
+pub mod Fields
 pub mod Example

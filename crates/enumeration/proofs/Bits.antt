@@ -1,6 +1,6 @@
--- Which bit of an index is the sign of which coordinate (docs/RULES.md, "The product index", "Sign index"): bit j
--- is that of the nonzero coordinate which has exactly j nonzero coordinates after it, and it is 1 where that one is
--- negative.
+-- Which bit of an index is the sign of which coordinate (docs/RULES.md, "The product index", "Sign index"), for every
+-- shape field: bit j is that of the nonzero coordinate which has exactly j nonzero coordinates after it, and it is 1
+-- where that one is negative.
 use Prim.Native.Nat.{ℕ, suc, _+_, _*_, _/_, _^_}
 use mathlib.Core.Path.{_≡_, sym, ap, _∙_}
 use mathlib.Core.List.{List, [], _∷_, _++_, map}
@@ -9,7 +9,8 @@ use native.Mathlib.Nat.{add-mul}
 use lib.Dec.{eqb}
 use lib.IntN.{ℤ}
 use lib.ListN.{length}
-use Rattle.counts.specs.Counts.{S, B, O}
+use Rattle.counts.specs.Counts.{B, rangeStart}
+use Rattle.counts.specs.Fields.{IsField}
 use Rattle.enumeration.specs.Point.{isNonzero, isNegative, nonzeros, nonzerosIn, patternIn, shapeIn, support, signsIn, radiusOf}
 use Rattle.enumeration.specs.Product.{patternIndex, shapeIndex, signIndex, indexFrom, productIndex}
 use Rattle.enumeration.specs.Reading.{bit, signsOf}
@@ -18,14 +19,14 @@ use Rattle.enumeration.proofs.Spread.{support-many}
 use Rattle.enumeration.proofs.Flips.{start-whole}
 
 -- the low s bits of an index, read as signs, are those of its point
-pub signs-low : (x : List ℤ) → signsOf (nonzerosIn x) (productIndex x) ≡ signsIn x
+pub signs-low : (F : ℕ → ℕ → ℕ) → IsField F → (x : List ℤ) → signsOf (nonzerosIn x) (productIndex F x) ≡ signsIn x
 unfolding productIndex indexFrom B
-signs-low x =
+signs-low F field x =
     let s = nonzerosIn x in
-    let c = O s (length x) (radiusOf x) / 2 ^ s in
-    let w = patternIndex (patternIn x) * S s (radiusOf x) + shapeIndex (shapeIn x) in
-    let blocks : productIndex x ≡ (c + w) * 2 ^ s + signIndex (signsIn x) =
-    ap (λ (o : ℕ). o + w * 2 ^ s + signIndex (signsIn x)) (sym (start-whole (length x) (radiusOf x) s))
+    let c = rangeStart F s (length x) (radiusOf x) / 2 ^ s in
+    let w = patternIndex (patternIn x) * F s (radiusOf x) + shapeIndex (shapeIn x) in
+    let blocks : productIndex F x ≡ (c + w) * 2 ^ s + signIndex (signsIn x) =
+    ap (λ (o : ℕ). o + w * 2 ^ s + signIndex (signsIn x)) (sym (start-whole F field (length x) (radiusOf x) s))
     ∙ ap (λ (o : ℕ). o + signIndex (signsIn x)) (sym (add-mul c w (2 ^ s))) in
     let many : length (signsIn x) ≡ s = support-many isNegative x in
     rw blocks (rw many at (signs-back (signsIn x) (c + w)))
@@ -44,6 +45,7 @@ sign-at n (b ∷ before) c after h e = go (isNonzero b) e (sign-at n before c af
     go true f rest = rest cc
     go false f rest = rest f
 
-pub bit-of-coordinate : (before : List ℤ) (c : ℤ) (after : List ℤ) → isNonzero c ≡ true
-    → eqb (bit (nonzerosIn after) (productIndex (before ++ c ∷ after))) 1 ≡ isNegative c
-bit-of-coordinate before c after h = sign-at (productIndex (before ++ c ∷ after)) before c after h (signs-low (before ++ c ∷ after))
+pub bit-of-coordinate : (F : ℕ → ℕ → ℕ) → IsField F → (before : List ℤ) (c : ℤ) (after : List ℤ) → isNonzero c ≡ true
+    → eqb (bit (nonzerosIn after) (productIndex F (before ++ c ∷ after))) 1 ≡ isNegative c
+bit-of-coordinate F field before c after h =
+    sign-at (productIndex F (before ++ c ∷ after)) before c after h (signs-low F field (before ++ c ∷ after))

@@ -12,6 +12,7 @@ pub mod Bits
 pub mod Steps
 pub mod Example
 pub mod MagnitudeExample
+pub mod SelectedExample
 pub mod Tails
 pub mod Laws
 pub mod Values

@@ -1,131 +1,144 @@
--- The range of an index, for all lengths and radii:
+-- The range of an index, for every shape field, length and radius:
 --     range-first, range-here, range-on, range-end     the search starts at m, stops at a range that holds n, passes
 --                                                      one that ends before, and ends at 0
---     starts-down                a range with a smaller s starts no earlier
---     range-holds                the range of an index below N holds it
+--     range-holds                the range of an index below the total holds it
 --     range-found                an index has no other range than the one that holds it
+--     holds-below                an index that a range holds is below the total
 --     found-below, none-found    a range from 1 on is found for no index past the end, and for each other, but at
 --                                radius 0
 use Prim.Native.Nat.{ℕ, zero, suc, _+_, _-_, _≤_, _<_}
 use mathlib.Core.Path.{_≡_, refl, _∙_}
 use native.Mathlib.Omega.{arith}
-use native.Mathlib.Decide.{decLt, le-ind}
+use native.Mathlib.Decide.{decLt}
 use native.Mathlib.Nat.{le-refl}
 use mathlib.Core.Bool.{Bool, true, false, and-eq-true-iff}
 use lib.Dec.{leb, ltb}
 use borrow.Author.Tests.{ltb-true, lt-ltb, le-ltb, le-leb}
-use Rattle.counts.specs.Counts.{N, S, R, O, mostNonzero}
-use Rattle.counts.proofs.Ranges.{range-next, range-last, end-bound}
-use Rattle.counts.proofs.Volume.{volume, volume-start}
+use Rattle.counts.specs.Counts.{binomial, D, B, mostNonzero, rangeSize, rangeStart}
+use Rattle.counts.specs.Fields.{fieldTotal, IsField}
+use Rattle.counts.proofs.Ranges.{range-next, range-last, starts-down, end-bound}
 use Rattle.enumeration.specs.Reading.{inRange, rangeFrom, rangeOf}
 
--- n is in the range for s
-pub record Holds (l k n s : ℕ) : Type 0 where
+-- n is in the range for s; a radius above 0 has no range for 0
+pub record Holds (F : ℕ → ℕ → ℕ) (l k n s : ℕ) : Type 0 where
+  pub some : 0 < k → 0 < s
   pub to-most : s ≤ mostNonzero l k
-  pub from-start : O s l k ≤ n
-  pub to-end : n < O s l k + R s l k
+  pub from-start : rangeStart F s l k ≤ n
+  pub to-end : n < rangeStart F s l k + rangeSize F s l k
 
-module _ (l k n : ℕ) where
+module _ (F : ℕ → ℕ → ℕ) (l k n : ℕ) where
   -- a range that starts at n or before and ends past it holds it; one that ends before does not
-  holds : (s : ℕ) → O s l k ≤ n → n < O s l k + R s l k → inRange l k n s ≡ true
-  holds s p h = rw (le-leb (O s l k) n p) (lt-ltb n (O s l k + R s l k) h)
+  holds : (s : ℕ) → rangeStart F s l k ≤ n → n < rangeStart F s l k + rangeSize F s l k → inRange F l k n s ≡ true
+  holds s p h = rw (le-leb (rangeStart F s l k) n p) (lt-ltb n (rangeStart F s l k + rangeSize F s l k) h)
 
-  passed : (s : ℕ) → O s l k + R s l k ≤ n → inRange l k n s ≡ false
-  passed s h = rw (le-leb (O s l k) n (omega arith)) (le-ltb n (O s l k + R s l k) h)
+  passed : (s : ℕ) → rangeStart F s l k + rangeSize F s l k ≤ n → inRange F l k n s ≡ false
+  passed s h = rw (le-leb (rangeStart F s l k) n (omega arith)) (le-ltb n (rangeStart F s l k + rangeSize F s l k) h)
 
-  stop : (s : ℕ) → O (suc s) l k ≤ n → n < O (suc s) l k + R (suc s) l k → rangeFrom l k n (suc s) ≡ suc s
+  stop : (s : ℕ) → rangeStart F (suc s) l k ≤ n → n < rangeStart F (suc s) l k + rangeSize F (suc s) l k → rangeFrom F l k n (suc s) ≡ suc s
   unfolding rangeFrom
   stop s p h = rw (holds (suc s) p h, rangeFrom)
 
-  pass : (s : ℕ) → O (suc s) l k + R (suc s) l k ≤ n → rangeFrom l k n (suc s) ≡ rangeFrom l k n s
+  pass : (s : ℕ) → rangeStart F (suc s) l k + rangeSize F (suc s) l k ≤ n → rangeFrom F l k n (suc s) ≡ rangeFrom F l k n s
   unfolding rangeFrom
   pass s h = rw (passed (suc s) h, rangeFrom)
 
-  pub range-first : rangeOf l k n ≡ rangeFrom l k n (mostNonzero l k)
+  pub range-first : rangeOf F l k n ≡ rangeFrom F l k n (mostNonzero l k)
   unfolding rangeOf
   range-first = refl
 
-  pub range-here : (s : ℕ) → 0 < s → O s l k ≤ n → n < O s l k + R s l k → rangeFrom l k n s ≡ s
+  pub range-here : (s : ℕ) → 0 < s → rangeStart F s l k ≤ n → n < rangeStart F s l k + rangeSize F s l k → rangeFrom F l k n s ≡ s
   range-here zero p b h = absurd (omega arith)
   range-here (suc s) p b h = stop s b h
 
-  pub range-on : (s : ℕ) → 0 < s → O s l k + R s l k ≤ n → rangeFrom l k n s ≡ rangeFrom l k n (s - 1)
+  pub range-on : (s : ℕ) → 0 < s → rangeStart F s l k + rangeSize F s l k ≤ n → rangeFrom F l k n s ≡ rangeFrom F l k n (s - 1)
   range-on zero p h = absurd (omega arith)
   range-on (suc s) p h = let less : suc s - 1 ≡ s = omega arith in rw less (pass s h)
 
-  pub range-end : rangeFrom l k n 0 ≡ 0
+  pub range-end : rangeFrom F l k n 0 ≡ 0
   unfolding rangeFrom
   range-end = refl
 
-pub starts-down : (l k s t : ℕ) → s ≤ t → t ≤ mostNonzero l k → O t l k ≤ O s l k
-starts-down l k s t h q = le-ind (λ (u : ℕ). u ≤ mostNonzero l k → O u l k ≤ O s l k) (λ p. le-refl (O s l k)) down t h q
-  where
-    down : (u : ℕ) → s ≤ u → (u ≤ mostNonzero l k → O u l k ≤ O s l k) → suc u ≤ mostNonzero l k → O (suc u) l k ≤ O s l k
-    down u p e r = omega (arith, e (omega arith), range-next S l k u r)
+-- the range for 0 ends at 1 where the radius is 0
+none-size : (F : ℕ → ℕ → ℕ) → IsField F → (l : ℕ) → rangeSize F 0 l 0 ≡ 1
+unfolding rangeSize D B binomial
+none-size F field l = rw (field .one)
 
-holds-from : (l k n t : ℕ) → n < N l k → t ≤ mostNonzero l k → O t l k ≤ n → Holds l k n (rangeFrom l k n t)
-holds-from l k n zero h q p =
-    rw (range-end l k n) (record { to-most = q; from-start = p; to-end = omega (arith, volume l k) })
-holds-from l k n (suc t) h q p =
-    go (decLt n (O (suc t) l k + R (suc t) l k)) (λ r. holds-from l k n t h (omega arith) (omega (arith, range-next S l k t q)))
+-- below the total, the range for 0 is reached at radius 0 alone
+holds-none : (F : ℕ → ℕ → ℕ) → IsField F → (l k n : ℕ) → n < fieldTotal F l k → rangeStart F 0 l k ≤ n → Holds F l k n 0
+unfolding fieldTotal
+holds-none F field l zero n h p = record { some = λ q. q; to-most = omega arith; from-start = p; to-end = omega (arith, none-size F field l) }
+holds-none F field l (suc k) n h p = absurd (omega arith)
+
+holds-from : (F : ℕ → ℕ → ℕ) → IsField F → (l k n t : ℕ) → n < fieldTotal F l k → t ≤ mostNonzero l k → rangeStart F t l k ≤ n
+    → Holds F l k n (rangeFrom F l k n t)
+holds-from F field l k n zero h q p = rw (range-end F l k n) (holds-none F field l k n h p)
+holds-from F field l k n (suc t) h q p =
+    go (decLt n (rangeStart F (suc t) l k + rangeSize F (suc t) l k))
+    (λ r. holds-from F field l k n t h (omega arith) (omega (arith, range-next F l k t q)))
   where
-    go : Dec (n < O (suc t) l k + R (suc t) l k) → (O (suc t) l k + R (suc t) l k ≤ n → Holds l k n (rangeFrom l k n t))
-        → Holds l k n (rangeFrom l k n (suc t))
-    go (yes r) rest = rw (stop l k n t p r) (record { to-most = q; from-start = p; to-end = r })
+    go : Dec (n < rangeStart F (suc t) l k + rangeSize F (suc t) l k)
+        → (rangeStart F (suc t) l k + rangeSize F (suc t) l k ≤ n → Holds F l k n (rangeFrom F l k n t)) → Holds F l k n (rangeFrom F l k n (suc t))
+    go (yes r) rest = rw (stop F l k n t p r) (record { some = λ u. omega arith; to-most = q; from-start = p; to-end = r })
     go (no r) rest =
-        let past : O (suc t) l k + R (suc t) l k ≤ n = omega arith in
-        rw (pass l k n t past) (rest past)
+        let past : rangeStart F (suc t) l k + rangeSize F (suc t) l k ≤ n = omega arith in
+        rw (pass F l k n t past) (rest past)
 
-pub range-holds : (l k n : ℕ) → n < N l k → Holds l k n (rangeOf l k n)
-range-holds l k n h =
-    rw (range-first l k n)
-    (holds-from l k n (mostNonzero l k) h (le-refl (mostNonzero l k)) (omega (arith, range-last S l k (mostNonzero l k) (le-refl (mostNonzero l k)))))
+pub range-holds : (F : ℕ → ℕ → ℕ) → IsField F → (l k n : ℕ) → n < fieldTotal F l k → Holds F l k n (rangeOf F l k n)
+range-holds F field l k n h =
+    let m = mostNonzero l k in
+    rw (range-first F l k n) (holds-from F field l k n m h (le-refl m) (omega (arith, range-last F l k m (le-refl m))))
 
-found-from : (l k n s t : ℕ) → Holds l k n s → s ≤ t → t ≤ mostNonzero l k → rangeFrom l k n t ≡ s
-found-from l k n s zero h p q = let none : s ≡ 0 = omega arith in rw none (range-end l k n)
-found-from l k n s (suc t) h p q = go (decLt t s) (λ r. found-from l k n s t h r (omega arith))
+pub holds-below : (F : ℕ → ℕ → ℕ) → IsField F → (l k n s : ℕ) → Holds F l k n s → n < fieldTotal F l k
+unfolding fieldTotal
+holds-below F field l zero n s h =
+    let none : s ≡ 0 = omega (arith, h .to-most) in
+    omega (arith, rw none at (h .to-end), none-size F field l, range-last F l 0 0 (omega arith))
+holds-below F field l (suc k) n s h =
+    let within : rangeStart F s l (suc k) + rangeSize F s l (suc k) ≤ rangeStart F 0 l (suc k) =
+    end-bound F l (suc k) s (h .some (omega arith)) (h .to-most) in
+    omega (arith, h .to-end)
+
+found-from : (F : ℕ → ℕ → ℕ) (l k n s t : ℕ) → Holds F l k n s → s ≤ t → t ≤ mostNonzero l k → rangeFrom F l k n t ≡ s
+found-from F l k n s zero h p q = let none : s ≡ 0 = omega arith in rw none (range-end F l k n)
+found-from F l k n s (suc t) h p q = go (decLt t s) (λ r. found-from F l k n s t h r (omega arith))
   where
-    go : Dec (t < s) → (s ≤ t → rangeFrom l k n t ≡ s) → rangeFrom l k n (suc t) ≡ s
+    go : Dec (t < s) → (s ≤ t → rangeFrom F l k n t ≡ s) → rangeFrom F l k n (suc t) ≡ s
     go (yes r) rest =
         let same : s ≡ suc t = omega arith in
-        rw same (stop l k n t (rw same at (h .from-start)) (rw same at (h .to-end)))
+        rw same (stop F l k n t (rw same at (h .from-start)) (rw same at (h .to-end)))
     go (no r) rest =
-        pass l k n t (omega (arith, h .from-start, starts-down l k s t (omega arith) (omega arith), range-next S l k t q)) ∙ rest (omega arith)
+        pass F l k n t (omega (arith, h .from-start, starts-down F l k s t (omega arith) (omega arith), range-next F l k t q)) ∙ rest (omega arith)
 
-pub range-found : (l k n s : ℕ) → Holds l k n s → rangeOf l k n ≡ s
-range-found l k n s h = range-first l k n ∙ found-from l k n s (mostNonzero l k) h (h .to-most) (le-refl (mostNonzero l k))
+pub range-found : (F : ℕ → ℕ → ℕ) (l k n s : ℕ) → Holds F l k n s → rangeOf F l k n ≡ s
+range-found F l k n s h = range-first F l k n ∙ found-from F l k n s (mostNonzero l k) h (h .to-most) (le-refl (mostNonzero l k))
 
 -- where a range from 1 on is found it holds n
-from-holds : (l k n t : ℕ) → 0 < rangeFrom l k n t → n < N l k
+from-holds : (F : ℕ → ℕ → ℕ) (l k n t : ℕ) → t ≤ mostNonzero l k → 0 < rangeFrom F l k n t → n < fieldTotal F l k
 unfolding rangeFrom
-from-holds l k n zero h = absurd (omega arith)
-from-holds l k n (suc t) h = go (inRange l k n (suc t)) refl h (from-holds l k n t)
+from-holds F l k n zero q h = absurd (omega arith)
+from-holds F l k n (suc t) q h = go (inRange F l k n (suc t)) refl h (from-holds F l k n t (omega arith))
   where
-    go : (b : Bool) → inRange l k n (suc t) ≡ b → 0 < elim b [ true ↦ suc t | false ↦ rangeFrom l k n t ]
-        → (0 < rangeFrom l k n t → n < N l k) → n < N l k
+    go : (b : Bool) → inRange F l k n (suc t) ≡ b → 0 < elim b [ true ↦ suc t | false ↦ rangeFrom F l k n t ]
+        → (0 < rangeFrom F l k n t → n < fieldTotal F l k) → n < fieldTotal F l k
     go true e p rest =
-        let start = leb (O (suc t) l k) n in
-        let end = O (suc t) l k + R (suc t) l k in
-        omega (arith, ltb-true n end (and-eq-true-iff start (ltb n end) .0 e .1), end-bound l k (suc t))
+        let start = leb (rangeStart F (suc t) l k) n in
+        let end = rangeStart F (suc t) l k + rangeSize F (suc t) l k in
+        omega (arith, ltb-true n end (and-eq-true-iff start (ltb n end) .0 e .1), end-bound F l k (suc t) (omega arith) q)
     go false e p rest = rest p
 
-pub found-below : (l k n : ℕ) → 0 < rangeOf l k n → n < N l k
-found-below l k n h = from-holds l k n (mostNonzero l k) (rw (range-first l k n) at h)
+pub found-below : (F : ℕ → ℕ → ℕ) (l k n : ℕ) → 0 < rangeOf F l k n → n < fieldTotal F l k
+found-below F l k n h = from-holds F l k n (mostNonzero l k) (le-refl (mostNonzero l k)) (rw (range-first F l k n) at h)
 
-pub none-above : (l k n : ℕ) → N l k ≤ n → rangeOf l k n ≡ 0
-none-above l k n h = go (decLt 0 (rangeOf l k n))
+pub none-above : (F : ℕ → ℕ → ℕ) (l k n : ℕ) → fieldTotal F l k ≤ n → rangeOf F l k n ≡ 0
+none-above F l k n h = go (decLt 0 (rangeOf F l k n))
   where
-    go : Dec (0 < rangeOf l k n) → rangeOf l k n ≡ 0
-    go (yes p) = absurd (omega (arith, found-below l k n p))
+    go : Dec (0 < rangeOf F l k n) → rangeOf F l k n ≡ 0
+    go (yes p) = absurd (omega (arith, found-below F l k n p))
     go (no p) = omega arith
 
-pub none-found : (l k n : ℕ) → rangeOf l k n ≡ 0 → 0 < k → N l k ≤ n
-none-found l zero n e p = absurd (omega arith)
-none-found l (suc k) n e p = go (decLt n (N l (suc k)))
+pub none-found : (F : ℕ → ℕ → ℕ) → IsField F → (l k n : ℕ) → rangeOf F l k n ≡ 0 → 0 < k → fieldTotal F l k ≤ n
+none-found F field l k n e p = go (decLt n (fieldTotal F l k))
   where
-    go : Dec (n < N l (suc k)) → N l (suc k) ≤ n
-    go (yes h) =
-        let end : n < O 0 l (suc k) + R 0 l (suc k) = rw e at (range-holds l (suc k) n h .to-end) in
-        let start : O 0 l (suc k) ≤ n = rw e at (range-holds l (suc k) n h .from-start) in
-        absurd (omega (arith, volume l (suc k), volume-start l k))
+    go : Dec (n < fieldTotal F l k) → fieldTotal F l k ≤ n
+    go (yes h) = absurd (omega (arith, range-holds F field l k n h .some p))
     go (no h) = omega arith

@@ -7,6 +7,7 @@ use mathlib.Core.Path.{_≡_}
 use mathlib.Core.List.{List, [], _∷_, map}
 use mathlib.Core.Bool.{Bool, true, false}
 use lib.IntN.{ℤ, pos, negℤ}
+use Rattle.counts.specs.Counts.{S}
 use Rattle.enumeration.specs.Product.{patternIndex, shapeIndex, signIndex, productIndex}
 use Rattle.enumeration.specs.Reading.{patternOf, shapeOf, signsOf, productPoint}
 use Rattle.enumeration.specs.Signs.{flipped}
@@ -70,20 +71,20 @@ pub record Example : Type 0 where
   pub signs-indexed : signIndex (true ∷ false ∷ false ∷ []) ≡ 4
   pub signs-read : signsOf 3 4 ≡ true ∷ false ∷ false ∷ []
   -- all points of length 3 and radius 2
-  pub read : map (productPoint 3 2) (from 0 18) ≡ points-3-2
-  pub indexed : map productIndex points-3-2 ≡ from 0 18
+  pub read : map (productPoint S 3 2) (from 0 18) ≡ points-3-2
+  pub indexed : map (productIndex S) points-3-2 ≡ from 0 18
   -- points of length 4 and radius 5, where patterns, shapes and signs all vary: 360 points, with 4, 3, 2 and 1
   -- nonzero coordinates from 0, 64, 256 and 352 on
-  pub index-18 : productIndex (pos 1 ∷ pos 1 ∷ negℤ (pos 2) ∷ pos 1 ∷ []) ≡ 18
-  pub index-90 : productIndex (pos 0 ∷ pos 2 ∷ negℤ (pos 1) ∷ pos 2 ∷ []) ≡ 90
-  pub index-133 : productIndex (negℤ (pos 1) ∷ pos 0 ∷ pos 3 ∷ negℤ (pos 1) ∷ []) ≡ 133
-  pub index-202 : productIndex (pos 3 ∷ negℤ (pos 1) ∷ pos 0 ∷ pos 1 ∷ []) ≡ 202
-  pub index-317 : productIndex (pos 4 ∷ pos 0 ∷ pos 0 ∷ negℤ (pos 1) ∷ []) ≡ 317
-  pub index-355 : productIndex (pos 0 ∷ pos 0 ∷ negℤ (pos 5) ∷ pos 0 ∷ []) ≡ 355
-  pub point-133 : productPoint 4 5 133 ≡ negℤ (pos 1) ∷ pos 0 ∷ pos 3 ∷ negℤ (pos 1) ∷ []
-  pub point-317 : productPoint 4 5 317 ≡ pos 4 ∷ pos 0 ∷ pos 0 ∷ negℤ (pos 1) ∷ []
+  pub index-18 : productIndex S (pos 1 ∷ pos 1 ∷ negℤ (pos 2) ∷ pos 1 ∷ []) ≡ 18
+  pub index-90 : productIndex S (pos 0 ∷ pos 2 ∷ negℤ (pos 1) ∷ pos 2 ∷ []) ≡ 90
+  pub index-133 : productIndex S (negℤ (pos 1) ∷ pos 0 ∷ pos 3 ∷ negℤ (pos 1) ∷ []) ≡ 133
+  pub index-202 : productIndex S (pos 3 ∷ negℤ (pos 1) ∷ pos 0 ∷ pos 1 ∷ []) ≡ 202
+  pub index-317 : productIndex S (pos 4 ∷ pos 0 ∷ pos 0 ∷ negℤ (pos 1) ∷ []) ≡ 317
+  pub index-355 : productIndex S (pos 0 ∷ pos 0 ∷ negℤ (pos 5) ∷ pos 0 ∷ []) ≡ 355
+  pub point-133 : productPoint S 4 5 133 ≡ negℤ (pos 1) ∷ pos 0 ∷ pos 3 ∷ negℤ (pos 1) ∷ []
+  pub point-317 : productPoint S 4 5 317 ≡ pos 4 ∷ pos 0 ∷ pos 0 ∷ negℤ (pos 1) ∷ []
   -- at radius 0 the one point is all zeros
-  pub index-none : productIndex (pos 0 ∷ pos 0 ∷ []) ≡ 0
-  pub point-none : productPoint 2 0 0 ≡ pos 0 ∷ pos 0 ∷ []
+  pub index-none : productIndex S (pos 0 ∷ pos 0 ∷ []) ≡ 0
+  pub point-none : productPoint S 2 0 0 ≡ pos 0 ∷ pos 0 ∷ []
   -- 5 and 7 differ in bit 1, that of the first coordinate
   pub turned : flipped 5 7 (triple (pos 1) (pos 0) (negℤ (pos 1))) ≡ triple (negℤ (pos 1)) (pos 0) (negℤ (pos 1))

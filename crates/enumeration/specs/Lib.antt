@@ -8,3 +8,4 @@ pub mod Enumerations
 pub mod Signs
 pub mod Example
 pub mod MagnitudeExample
+pub mod SelectedExample

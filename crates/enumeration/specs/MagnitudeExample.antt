@@ -1,15 +1,10 @@
 -- The magnitude enumeration in small: all 18 points of length 3 and radius 2 in the order of their indices, with
--- (1,0,-1) at 9; offsets by both equations; and what a selector selects. proofs/MagnitudeExample.antt computes every
--- line.
+-- (1,0,-1) at 9; and offsets by both equations. proofs/MagnitudeExample.antt computes every line.
 use mathlib.Core.Path.{_≡_}
-use mathlib.Core.Bool.{true, false}
 use mathlib.Core.List.{List, [], _∷_, map}
-use lib.Dec.{eqb}
 use lib.IntN.{ℤ, pos, negℤ}
-use Rattle.enumeration.specs.Enumerations.{selectedBy, selectsNone, product, magnitude}
 use Rattle.enumeration.specs.Example.{triple, from}
 use Rattle.enumeration.specs.Magnitude.{offset, offsetSum, magnitudeIndex, magnitudePoint}
-use Rattle.enumeration.specs.Signs.{flipped, signsLowest}
 
 -- the first coordinate is 0 from 0 on, 1 from 8 on, -1 from 12 on, 2 at 16 and -2 at 17
 abbrev pub ordered-3-2 : List (List ℤ)
@@ -66,12 +61,3 @@ pub record MagnitudeExample : Type 0 where
   -- at radius 0 the one point is all zeros
   pub index-none : magnitudeIndex (pos 0 ∷ pos 0 ∷ []) ≡ 0
   pub point-none : magnitudePoint 2 0 0 ≡ pos 0 ∷ pos 0 ∷ []
-  -- what a selector selects; from 2 on nothing
-  pub selector-0 : selectedBy 0 ≡ product
-  pub selector-1 : selectedBy 1 ≡ magnitude
-  pub selects-some : selectsNone 1 ≡ false
-  pub selects-none : selectsNone 2 ≡ true
-  -- index 2 of length 3 and radius 2 with its bit 1 changed, 0: the point with its first nonzero coordinate negated is
-  -- that of 0 exactly where that bit is a sign
-  pub signs-lowest : eqb (product .index (flipped 2 0 (product .point 3 2 2))) 0 ≡ signsLowest 0
-  pub signs-elsewhere : eqb (magnitude .index (flipped 2 0 (magnitude .point 3 2 2))) 0 ≡ signsLowest 1

@@ -1,27 +1,27 @@
 -- The point of an index: docs/RULES.md, "Point of an index": "take the first s whose range holds the index"; then
 -- the pattern, the shape and the signs are read from the position in that range. Written by itself, and not as the
--- reverse of specs/Product.antt; that each undoes the other is proved.
+-- reverse of specs/Product.antt; that each undoes the other is proved. F is the shape field, as it is there.
 use Prim.Native.Nat.{ℕ, zero, suc, _+_, _-_, _/_, _%_, _^_}
 use mathlib.Core.List.{List, [], _∷_}
 use mathlib.Core.Bool.{Bool, true, false, _&&_}
 use lib.Dec.{leb, ltb, eqb}
 use lib.IntN.{ℤ, pos}
-use Rattle.counts.specs.Counts.{D, S, B, R, O, mostNonzero}
+use Rattle.counts.specs.Counts.{D, S, B, mostNonzero, rangeSize, rangeStart}
 use Rattle.enumeration.specs.Among.{firstAmong, leftAmong}
 use Rattle.enumeration.specs.Point.{signed}
 
--- the range for s holds n: the R numbers from O(s) on
-abbrev pub inRange : ℕ → ℕ → ℕ → ℕ → Bool
-inRange l k n s = leb (O s l k) n && ltb n (O s l k + R s l k)
+-- the range for s holds n: as many numbers as its size, from its start on
+abbrev pub inRange : (ℕ → ℕ → ℕ) → ℕ → ℕ → ℕ → ℕ → Bool
+inRange F l k n s = leb (rangeStart F s l k) n && ltb n (rangeStart F s l k + rangeSize F s l k)
 
 -- the first of s, s-1, .. 1 whose range holds n; where none does it is 0, the range of radius 0
-unfoldable pub rangeFrom : ℕ → ℕ → ℕ → ℕ → ℕ
-rangeFrom l k n zero = 0
-rangeFrom l k n (suc s) = elim (inRange l k n (suc s)) [ true ↦ suc s | false ↦ rangeFrom l k n s ]
+unfoldable pub rangeFrom : (ℕ → ℕ → ℕ) → ℕ → ℕ → ℕ → ℕ → ℕ
+rangeFrom F l k n zero = 0
+rangeFrom F l k n (suc s) = elim (inRange F l k n (suc s)) [ true ↦ suc s | false ↦ rangeFrom F l k n s ]
 
 -- the first s, counted down from m, whose range holds it
-unfoldable pub rangeOf : ℕ → ℕ → ℕ → ℕ
-rangeOf l k n = rangeFrom l k n (mostNonzero l k)
+unfoldable pub rangeOf : (ℕ → ℕ → ℕ) → ℕ → ℕ → ℕ → ℕ
+rangeOf F l k n = rangeFrom F l k n (mostNonzero l k)
 
 -- The n-th pattern of s nonzero coordinates among l. The D(s,l-1) patterns that begin with a zero come first.
 unfoldable pub patternOf : ℕ → ℕ → ℕ → List Bool
@@ -66,9 +66,21 @@ spread (true ∷ p) (c ∷ cs) = c ∷ spread p cs
 unfoldable pub pointFrom : (s l k pattern shape signs : ℕ) → List ℤ
 pointFrom s l k pattern shape signs = spread (patternOf s l pattern) (signAll (signsOf s signs) (shapeOf s k shape))
 
--- the parts of a position in the range for s, which counts signs first, then shapes, then patterns
-unfoldable pub pointWithin : (s l k within : ℕ) → List ℤ
-pointWithin s l k within = pointFrom s l k (within / B s / S s k) (within / B s % S s k) within
+-- the parts of a position in the range for s, which counts signs first, then the shape field, then patterns
+unfoldable pub pointWithin : (F : ℕ → ℕ → ℕ) (s l k within : ℕ) → List ℤ
+pointWithin F s l k within = pointFrom s l k (within / B s / F s k) (within / B s % F s k) within
 
-unfoldable pub productPoint : ℕ → ℕ → ℕ → List ℤ
-productPoint l k n = pointWithin (rangeOf l k n) l k (n - O (rangeOf l k n) l k)
+-- the position of n in its range
+abbrev pub positionOf : (ℕ → ℕ → ℕ) → ℕ → ℕ → ℕ → ℕ
+positionOf F l k n = n - rangeStart F (rangeOf F l k n) l k
+
+unfoldable pub productPoint : (ℕ → ℕ → ℕ) → ℕ → ℕ → ℕ → List ℤ
+productPoint F l k n = pointWithin F (rangeOf F l k n) l k (positionOf F l k n)
+
+-- "If the remainder, the shape field, is S(s,k) or more, the shape is empty, and the index names no point": whether a
+-- position names one
+unfoldable pub namesWithin : (F : ℕ → ℕ → ℕ) (s k within : ℕ) → Bool
+namesWithin F s k within = ltb (within / B s % F s k) (S s k)
+
+unfoldable pub productNames : (ℕ → ℕ → ℕ) → ℕ → ℕ → ℕ → Bool
+productNames F l k n = namesWithin F (rangeOf F l k n) k (positionOf F l k n)

@@ -2,7 +2,7 @@
 -- bits: "Enumerations".
 use Prim.Native.Nat.{ℕ}
 use mathlib.Core.List.{List, [], _∷_}
-use mathlib.Core.Bool.{Bool, cond}
+use mathlib.Core.Bool.{Bool, cond, _||_}
 use lib.Dec.{eqb}
 use lib.IntN.{ℤ, negℤ}
 use Rattle.enumeration.specs.Point.{nonzerosIn}
@@ -14,6 +14,7 @@ abbrev pub flipped : ℕ → ℕ → List ℤ → List ℤ
 flipped n n′ [] = []
 flipped n n′ (c ∷ x) = cond (eqb (bit (nonzerosIn x) n) (bit (nonzerosIn x) n′)) c (negℤ c) ∷ flipped n n′ x
 
--- the selectors of the enumerations whose indices have one sign bit for each nonzero coordinate, lowest in the index
+-- the selectors of the enumerations whose indices have one sign bit for each nonzero coordinate, lowest in the index:
+-- 0 and 2
 abbrev pub signsLowest : ℕ → Bool
-signsLowest v = eqb v 0
+signsLowest v = eqb v 0 || eqb v 2

@@ -6,11 +6,12 @@ use lib.IntN.{ℤ}
 use Rattle.enumeration.specs.Enumeration.{Enumeration}
 use Rattle.tables.specs.Row.{lengthOf, selectorOf, enumerationOf, shellTotal}
 use Rattle.tables.specs.Usable.{IsUsable}
-use Rattle.numbering.specs.Numbered.{enumerationNamed, enumerationIn, totalIn, indexIn, pointIn, namesIn, IsOfRow, Usable, foundBy, IsFound, FoundIn}
+use Rattle.numbering.specs.Numbered.{enumerationIn, totalIn, indexIn, pointIn, namesIn, IsOfRow, Usable, foundBy, IsFound, FoundIn}
 use Rattle.numbering.specs.declared.inner.Found.{Found}
 use Rattle.numbering.specs.declared.inner.Numbering.{Numbering}
-use Rattle.numbering.specs.declared.inner.Selected.{Selected}
-use Rattle.numbering.proofs.Selected.{named-by}
+use Rattle.selectors.specs.Selected.{enumerationNamed}
+use Rattle.selectors.specs.declared.inner.Selected.{Selected}
+use Rattle.selectors.proofs.Named.{named-by}
 
 module _ {m : Numbering} {row : List ℕ} {k : ℕ} (of-row : IsOfRow m row k) where
   pub enumeration-of : enumerationIn m ≡ enumerationOf row
@@ -30,10 +31,10 @@ module _ {m : Numbering} {row : List ℕ} {k : ℕ} (of-row : IsOfRow m row k) w
       ap (λ (e : Enumeration). e .point (m .length .0) (m .radius .0) n) enumeration-of
       ∙ ap₂ (λ (l r : ℕ). enumerationOf row .point l r n) (of-row .is-length) (of-row .is-radius)
 
-  pub names-of : (n : ℕ) → namesIn m n ≡ enumerationOf row .names (lengthOf row) k n
-  names-of n =
-      ap (λ (e : Enumeration). e .names (m .length .0) (m .radius .0) n) enumeration-of
-      ∙ ap₂ (λ (l r : ℕ). enumerationOf row .names l r n) (of-row .is-length) (of-row .is-radius)
+  pub names-of : namesIn m ≡ enumerationOf row .names (lengthOf row) k
+  names-of =
+      ap (λ (e : Enumeration). e .names (m .length .0) (m .radius .0)) enumeration-of
+      ∙ ap₂ (enumerationOf row .names) (of-row .is-length) (of-row .is-radius)
 
   pub usable-of : IsUsable (lengthOf row) k (shellTotal row k) → Usable m
   usable-of usable = rw (total-of, of-row .is-length, of-row .is-radius) usable

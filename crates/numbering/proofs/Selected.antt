@@ -1,40 +1,37 @@
--- The enumerations by the code's names: a selector selects in the code what it selects in the rules; the total of each
--- is N, by which a shell is usable; and what is asked of a numbering is asked of the enumeration that is named.
-use Prim.Native.Nat.{ℕ, zero, suc}
-use mathlib.Core.Path.{_≡_, refl, sym, ap, _∙_}
-use mathlib.Core.Bool.{true}
+-- What is asked of a numbering is asked of the enumeration that is selected.
+use Prim.Native.Nat.{ℕ}
+use mathlib.Core.Path.{_≡_, sym, ap, _∙_}
+use mathlib.Core.Bool.{Bool}
 use mathlib.Core.List.{List}
 use lib.IntN.{ℤ}
-use Rattle.counts.specs.Counts.{N}
+use Rattle.counts.specs.Fields.{sizeOf, fieldTotal}
 use Rattle.enumeration.specs.Enumeration.{Enumeration}
-use Rattle.enumeration.specs.Enumerations.{selectedBy}
+use Rattle.selectors.specs.Selected.{enumerationNamed, fieldIn}
+use Rattle.selectors.specs.declared.inner.Selected.{Selected}
+use Rattle.selectors.proofs.Named.{total-named}
 use Rattle.tables.specs.Usable.{IsUsable}
-use Rattle.numbering.specs.Numbered.{selectedOf, enumerationNamed, enumerationIn, totalIn, indexIn, pointIn, namesIn, Usable, foundBy, IsFound}
+use Rattle.numbering.specs.Numbered.{enumerationIn, totalIn, indexIn, pointIn, namesIn, Usable, foundBy, IsFound}
 use Rattle.numbering.specs.declared.inner.Found.{Found}
 use Rattle.numbering.specs.declared.inner.Numbering.{Numbering}
-use Rattle.numbering.specs.declared.inner.Selected.{Selected}
-use Rattle.numbering.specs.declared.inner.Selected.the-variants as selected
 
-pub named-by : (v : ℕ) → enumerationNamed (selectedOf v) ≡ selectedBy v
-unfolding selectedBy
-named-by zero = refl
-named-by (suc v) = refl
-
-total-named : (s : Selected) (l k : ℕ) → enumerationNamed s .total l k ≡ N l k
-total-named selected.Product l k = refl
-total-named selected.Magnitude l k = refl
-
-pub total-is : (m : Numbering) → totalIn m ≡ N (m .length .0) (m .radius .0)
+-- the total is that of the shape field
+pub total-in-field : (m : Numbering) → totalIn m ≡ fieldTotal (sizeOf (fieldIn (m .selected))) (m .length .0) (m .radius .0)
 unfolding enumerationIn
-total-is m = total-named (m .selected) (m .length .0) (m .radius .0)
-
-pub usable-by-count : (m : Numbering) → Usable m → IsUsable (m .length .0) (m .radius .0) (N (m .length .0) (m .radius .0))
-usable-by-count m usable = rw (total-is m) at usable
+total-in-field m = total-named (m .selected) (m .length .0) (m .radius .0)
 
 module _ {s : Selected} (m : Numbering) (e : m .selected ≡ s) where
   named : enumerationIn m ≡ enumerationNamed s
   unfolding enumerationIn
   named = ap enumerationNamed e
+
+  pub total-by : totalIn m ≡ enumerationNamed s .total (m .length .0) (m .radius .0)
+  total-by = ap (λ (f : Enumeration). f .total (m .length .0) (m .radius .0)) named
+
+  pub usable-by : Usable m → IsUsable (m .length .0) (m .radius .0) (enumerationNamed s .total (m .length .0) (m .radius .0))
+  usable-by usable = rw total-by at usable
+
+  pub names-by : {b : Bool} (n : ℕ) → b ≡ enumerationNamed s .names (m .length .0) (m .radius .0) n → b ≡ namesIn m n
+  names-by n is = is ∙ sym (ap (λ (f : Enumeration). f .names (m .length .0) (m .radius .0) n) named)
 
   pub index-by : {r : ℕ} (x : List ℤ) → r ≡ enumerationNamed s .index x → r ≡ indexIn m x
   index-by x is = is ∙ sym (ap (λ (f : Enumeration). f .index x) named)
@@ -47,12 +44,3 @@ module _ {s : Selected} (m : Numbering) (e : m .selected ≡ s) where
 
   pub stands-by : {found : Found} (n : ℕ) → IsFound m n found → found ≡ foundBy s (m .length .0) (m .radius .0) n
   stands-by n is = is .stands ∙ ap (λ (v : Selected). foundBy v (m .length .0) (m .radius .0) n) e
-
--- every index below the total names a point
-pub all-named : (m : Numbering) (n : ℕ) → namesIn m n ≡ true
-unfolding enumerationIn
-all-named m n = go (m .selected)
-  where
-    go : (s : Selected) → enumerationNamed s .names (m .length .0) (m .radius .0) n ≡ true
-    go selected.Product = refl
-    go selected.Magnitude = refl

@@ -1,38 +1,31 @@
 -- What a numbering of the points of a shell is, and what is asked of it. m is the shell and its enumeration as the
 -- code hands them over, n an index.
-use Prim.Native.Nat.{ℕ, zero, suc, _≤_, _<_}
+use Prim.Native.Nat.{ℕ, _≤_, _<_}
 use mathlib.Core.Path.{_≡_}
 use mathlib.Core.List.{List}
-use mathlib.Core.Bool.{Bool, true}
+use mathlib.Core.Bool.{Bool, true, false}
 use lib.IntN.{ℤ}
-use Rattle.counts.specs.Counts.{O}
+use Rattle.counts.specs.Counts.{rangeStart}
+use Rattle.counts.specs.Fields.{sizeOf}
+use Rattle.counts.specs.declared.Field.{Field}
 use Rattle.enumeration.specs.Enumeration.{Enumeration}
-use Rattle.enumeration.specs.Enumerations.{product, magnitude}
 use Rattle.enumeration.specs.Reading.{rangeOf}
 use Rattle.tables.specs.Row.{lengthOf, selectorOf}
 use Rattle.tables.specs.Usable.{IsUsable}
-use Rattle.numbering.specs.declared.inner.Selected.{Selected}
-use Rattle.numbering.specs.declared.inner.Selected.the-variants as selected
+use Rattle.selectors.specs.Selected.{selectedOf, enumerationNamed}
+use Rattle.selectors.specs.declared.inner.Selected.{Selected}
+use Rattle.selectors.specs.declared.inner.Selected.the-variants as selected
 use Rattle.numbering.specs.declared.inner.Numbering.{Numbering}
 use Rattle.numbering.specs.declared.inner.Found.{Found}
 use Rattle.numbering.specs.declared.inner.Sought.{Sought}
 use Rattle.numbering.specs.declared.inner.Sought.the-variants as sought
 
--- which enumeration a selector selects, in code, and the enumeration that the code's name stands for
-abbrev pub selectedOf : ℕ → Selected
-selectedOf zero = selected.Product
-selectedOf (suc v) = selected.Magnitude
-
-abbrev pub enumerationNamed : Selected → Enumeration
-enumerationNamed selected.Product = product
-enumerationNamed selected.Magnitude = magnitude
-
 -- the enumeration that numbers the points
 unfoldable pub enumerationIn : Numbering → Enumeration
 enumerationIn m = enumerationNamed (m .selected)
 
-abbrev pub ByProduct : Numbering → Type 0
-ByProduct m = m .selected ≡ selected.Product
+abbrev pub ByProduct : Numbering → Field → Type 0
+ByProduct m f = m .selected ≡ selected.Product f
 
 abbrev pub ByMagnitude : Numbering → Type 0
 ByMagnitude m = m .selected ≡ selected.Magnitude
@@ -69,9 +62,9 @@ pub record Names (m : Numbering) (n : ℕ) : Type 0 where
 abbrev pub nowhere : Found
 nowhere = record { s = 0; start = 0 }
 
--- where n stands: by the product enumeration in the range for s, which starts there
+-- where n stands: by pattern, shape and signs in the range for s, which starts there
 abbrev pub foundBy : Selected → ℕ → ℕ → ℕ → Found
-foundBy selected.Product l k n = record { s = rangeOf l k n; start = O (rangeOf l k n) l k }
+foundBy (selected.Product f) l k n = record { s = rangeOf (sizeOf f) l k n; start = rangeStart (sizeOf f) (rangeOf (sizeOf f) l k n) l k }
 foundBy selected.Magnitude l k n = nowhere
 
 pub record IsFound (m : Numbering) (n : ℕ) (found : Found) : Type 0 where
@@ -80,6 +73,7 @@ pub record IsFound (m : Numbering) (n : ℕ) (found : Found) : Type 0 where
 -- what a search for n is to answer
 abbrev pub Seeks : Numbering → ℕ → Sought → Type 0
 Seeks m n (sought.At found) = (n < totalIn m) × (namesIn m n ≡ true) × IsFound m n found
+Seeks m n sought.Empty = (n < totalIn m) × (namesIn m n ≡ false)
 Seeks m n (sought.Past total) = (totalIn m ≤ n) × (total ≡ totalIn m)
 
 -- `found` is where n stands in the shell of radius k in a row, whichever numbering of it is asked

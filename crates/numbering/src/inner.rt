@@ -1,34 +1,21 @@
 // A shell's numbering, by value, and what can be asked of it.
+use counts::Field;
 use counts::Length;
 use counts::Radius;
-use enumeration::Selector;
 use product::inner::range::Range;
 use product::inner::range::holds;
 use product::inner::range::locate;
+use ranges::inner::index_count;
+use selectors::inner::Selected;
+use selectors::inner::field_of;
+use selectors::inner::select;
 ghost use mathlib.Core.Path.{_≡_};
 ghost use Prim.Native.Nat.{_<_};
 ghost use lib.ListN as listed;
 ghost use Rattle.enumeration.specs.Point.{OnShell};
 ghost use Rattle.tables.specs.Row.{rowLength, radiusAt};
 ghost use Rattle.numbering.specs.Numbered as numbered;
-ghost use Rattle.numbering.specs.Numbered.{selectedOf, ByProduct, ByMagnitude, IsOfRow, totalIn, indexIn, pointIn, Usable, Names, IsFound, Seeks};
-
-// The enumerations.
-pub enum Selected {
-    Product,
-    Magnitude,
-}
-
-// The enumeration that a selector selects. Only here is a number made one, for the table and for the calls that are
-// given a selector.
-pub fn select(selector: Selector) -> Selected
-    ensures { λ r. ⌜ r ≡ selectedOf (selector .0) ⌝ }
-{
-    if selector.0 == 0 {
-        return Selected::Product;
-    }
-    Selected::Magnitude
-}
+ghost use Rattle.numbering.specs.Numbered.{ByProduct, ByMagnitude, IsOfRow, totalIn, indexIn, pointIn, namesIn, Usable, Names, IsFound, Seeks};
 
 // The shell whose points are numbered, and by which enumeration.
 pub struct Numbering {
@@ -37,8 +24,8 @@ pub struct Numbering {
     pub radius: Radius,
 }
 
-// Where an index stands among the others, as a search found it: of the product enumeration its range. The magnitude
-// enumeration has nothing to tell.
+// Where an index stands among the others, as a search found it: its range, where the points are numbered by pattern,
+// shape and signs. The magnitude enumeration has nothing to tell.
 pub struct Found {
     pub s: usize,
     pub start: u64,
@@ -53,9 +40,11 @@ fn range_of(found: Found) -> Range
     }
 }
 
-// An index that was sought: it names a point and stands here, or it is past the end, and there are so many.
+// An index that was sought: it names a point and stands here; or it names none, as its shape is empty; or it is past
+// the end, and there are so many.
 pub enum Sought {
     At(Found),
+    Empty,
     Past { total: u64 },
 }
 
@@ -79,12 +68,14 @@ pub fn of_row(row: &[u8], number: usize) -> Numbering
     of_radius(row, rows::inner::row::radius(row, number))
 }
 
-// How many indices there are: N, by either enumeration.
+// How many indices there are.
 pub fn total(numbering: Numbering) -> u64
     requires { ⌜ Usable numbering ⌝ }
     ensures { λ r. ⌜ r ≡ totalIn numbering ⌝ }
 {
-    ranges::inner::point_count(numbering.length, numbering.radius)
+    let selected = numbering.selected;
+    let field = field_of(selected);
+    index_count(field, numbering.length, numbering.radius)
 }
 
 // The index of a point of the shell.
@@ -96,7 +87,7 @@ pub fn index(numbering: Numbering, x: &[i32]) -> u64
     let radius = numbering.radius;
     let selected = numbering.selected;
     match selected {
-        Selected::Product => product::inner::weigh::index_of(length, radius, x),
+        Selected::Product(field) => product::inner::weigh::index_of(field, length, radius, x),
         Selected::Magnitude => magnitude::inner::weigh::index_of(radius, x),
     }
 }
@@ -108,12 +99,12 @@ pub fn nowhere() -> Found
     Found { s: 0, start: 0 }
 }
 
-// Where an index stands by the product enumeration.
-fn find_range(numbering: Numbering, n: u64) -> Found
-    requires { ⌜ Usable numbering × ByProduct numbering ⌝ }
+// Where an index stands, by pattern, shape and signs.
+fn find_range(numbering: Numbering, field: Field, n: u64) -> Found
+    requires { ⌜ Usable numbering × ByProduct numbering field ⌝ }
     ensures { λ f. ⌜ IsFound numbering n f ⌝ }
 {
-    let range = locate(numbering.length, numbering.radius, n);
+    let range = locate(field, numbering.length, numbering.radius, n);
     Found {
         s: range.s,
         start: range.start,
@@ -127,24 +118,27 @@ pub fn seek(numbering: Numbering, n: u64) -> Sought
 {
     let selected = numbering.selected;
     match selected {
-        Selected::Product => seek_range(numbering, n),
+        Selected::Product(field) => seek_range(numbering, field, n),
         Selected::Magnitude => seek_below(numbering, n),
     }
 }
 
-// By the product enumeration: what was searched to is the end, if no range holds the index.
-fn seek_range(numbering: Numbering, n: u64) -> Sought
-    requires { ⌜ Usable numbering × ByProduct numbering ⌝ }
+// By pattern, shape and signs: what was searched to is the end, if no range holds the index.
+fn seek_range(numbering: Numbering, field: Field, n: u64) -> Sought
+    requires { ⌜ Usable numbering × ByProduct numbering field ⌝ }
     ensures { λ r. ⌜ Seeks numbering n r ⌝ }
 {
     let length = numbering.length;
     let radius = numbering.radius;
-    let found = find_range(numbering, n);
-    if holds(range_of(found), length, radius, n) {
-        return Sought::At(found);
+    let found = find_range(numbering, field, n);
+    if holds(field, range_of(found), length, radius, n) {
+        if product::inner::range::names(field, length, radius, n, range_of(found)) {
+            return Sought::At(found);
+        }
+        return Sought::Empty;
     }
     Sought::Past {
-        total: ranges::inner::total(length, radius, found.start),
+        total: ranges::inner::total(field, length, radius, found.start),
     }
 }
 
@@ -160,6 +154,37 @@ fn seek_below(numbering: Numbering, n: u64) -> Sought
     Sought::Past { total }
 }
 
+// Whether an index below the total names a point; no point is built for that.
+pub fn names(numbering: Numbering, n: u64) -> bool
+    requires { ⌜ Usable numbering × (n < totalIn numbering) ⌝ }
+    ensures { λ r. ⌜ r ≡ namesIn numbering n ⌝ }
+{
+    let selected = numbering.selected;
+    match selected {
+        Selected::Product(field) => names_in_field(numbering, field, n),
+        Selected::Magnitude => true,
+    }
+}
+
+// The same by pattern, shape and signs. Where the field is exact there is nothing to search.
+fn names_in_field(numbering: Numbering, field: Field, n: u64) -> bool
+    requires { ⌜ Usable numbering × ByProduct numbering field × (n < totalIn numbering) ⌝ }
+    ensures { λ r. ⌜ r ≡ namesIn numbering n ⌝ }
+{
+    let length = numbering.length;
+    let radius = numbering.radius;
+    match field {
+        Field::Exact => true,
+        Field::Bits => product::inner::range::names(
+            field,
+            length,
+            radius,
+            n,
+            locate(field, length, radius, n),
+        ),
+    }
+}
+
 // The point of an index that names one, by where it stands.
 pub fn write_point(numbering: Numbering, n: u64, found: Found, out: &mut [i32])
     requires { ⌜ Names numbering n × IsFound numbering n found × (listed.length (now out) ≡ numbering .length .0) ⌝ }
@@ -169,7 +194,8 @@ pub fn write_point(numbering: Numbering, n: u64, found: Found, out: &mut [i32])
     let radius = numbering.radius;
     let selected = numbering.selected;
     match selected {
-        Selected::Product => product::inner::read::write_point(
+        Selected::Product(field) => product::inner::read::write_point(
+            field,
             length,
             radius,
             n,
@@ -189,11 +215,12 @@ pub fn write_sought(numbering: Numbering, n: u64, out: &mut [i32])
     let radius = numbering.radius;
     let selected = numbering.selected;
     match selected {
-        Selected::Product => product::inner::read::write_point(
+        Selected::Product(field) => product::inner::read::write_point(
+            field,
             length,
             radius,
             n,
-            locate(length, radius, n),
+            locate(field, length, radius, n),
             out,
         ),
         Selected::Magnitude => magnitude::inner::read::write_point(radius, n, out),

@@ -1,3 +1,2 @@
 pub mod Says
 pub mod OneToOne
-pub mod Example

@@ -8,7 +8,7 @@ use Rattle.points.specs.declared.Indexed.{Indexed}
 use Rattle.points.specs.declared.Indexed.the-variants as indexed
 use Rattle.points.specs.declared.Pointed.{Pointed}
 use Rattle.points.specs.declared.Pointed.the-variants as pointed
-use Rattle.points.specs.Calls.{indexMeaning, pointMeaning}
+use Rattle.points.specs.Meanings.{indexMeaning, pointMeaning}
 
 indexOf : List ℕ → Indexed
 indexOf vs = answerOf (λ n. indexed.At (getD n 0 0)) indexed.Refused vs

@@ -18,11 +18,12 @@ use Rattle.counts.specs.declared.Length.{Length}
 use Rattle.counts.specs.declared.Radius.{Radius}
 use Rattle.tables.specs.Usable.{IsUsable}
 use Rattle.tables.proofs.Usable.{passes-usable}
-use Rattle.numbering.specs.Numbered.{selectedOf, enumerationNamed, enumerationIn, Usable}
+use Rattle.numbering.specs.Numbered.{enumerationIn, Usable}
 use Rattle.numbering.specs.declared.inner.Numbering.{Numbering}
-use Rattle.numbering.specs.declared.inner.Selected.{Selected}
-use Rattle.numbering.proofs.Selected.{named-by}
-use Rattle.points.specs.Calls.{pastEnd, selectedChecks, indexRest, pointRest}
+use Rattle.selectors.specs.Selected.{selectedOf, enumerationNamed}
+use Rattle.selectors.specs.declared.inner.Selected.{Selected}
+use Rattle.selectors.proofs.Named.{named-by}
+use Rattle.indexing.specs.Calls.{pastEnd, selectedChecks, indexRest, pointRest}
 
 -- the checks of a selector and a shell let them through: then all pass
 pub let-through : (v l k : ℕ) → 0 ∷ [] ≡ firstOf (selectedChecks v l k) (0 ∷ []) → Passes (selectedChecks v l k)
@@ -78,5 +79,8 @@ module _ (e : Enumeration) (l k n : ℕ) (held : List ℤ) where
   pub point-6 : length held ≡ l → e .total l k ≤ n → PointDoes (6 ∷ distance (e .total l k) n ∷ []) held
   point-6 long h = rw (eq-eqb (length held) l long, at-end (e .total l k) n h) (refl, refl)
 
-  pub point-0 : length held ≡ l → n < e .total l k → PointDoes (0 ∷ []) (e .point l k n)
-  point-0 long h = rw (eq-eqb (length held) l long, before-end (e .total l k) n h) (refl, refl)
+  pub point-15 : length held ≡ l → n < e .total l k → e .names l k n ≡ false → PointDoes (15 ∷ []) held
+  point-15 long h empty = rw (eq-eqb (length held) l long, before-end (e .total l k) n h, empty) (refl, refl)
+
+  pub point-0 : length held ≡ l → n < e .total l k → e .names l k n ≡ true → PointDoes (0 ∷ []) (e .point l k n)
+  point-0 long h named = rw (eq-eqb (length held) l long, before-end (e .total l k) n h, named) (refl, refl)

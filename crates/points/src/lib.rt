@@ -9,8 +9,9 @@ use enumeration::Selector;
 use numbering::inner::Numbering;
 use numbering::inner::Sought;
 use numbering::inner::seek;
-use numbering::inner::select;
 use numbering::inner::write_point;
+use selectors::inner::field_of;
+use selectors::inner::select;
 use shell::check_shell;
 ghost use mathlib.Core.Path.{_≡_};
 ghost use mathlib.Core.List.{[], _∷_};
@@ -18,7 +19,8 @@ ghost use lib.ListN as listed;
 ghost use Rattle.answers.specs.Checks.{firstOf, leaves};
 ghost use Rattle.answers.specs.Refusals.{verdictMeaning};
 ghost use Rattle.numbering.specs.Numbered.{enumerationIn, indexIn, pointIn, Usable};
-ghost use Rattle.points.specs.Calls.{selectedChecks, indexMeaning, indexRest, indexSays, pointMeaning, pointRest, pointSays, pointLeaves};
+ghost use Rattle.indexing.specs.Calls.{selectedChecks, indexRest, indexSays, pointRest, pointSays, pointLeaves};
+ghost use Rattle.points.specs.Meanings.{indexMeaning, pointMeaning};
 
 pub enum Indexed {
     At(u64),
@@ -71,10 +73,10 @@ pub fn point(selector: Selector, length: Length, radius: Radius, n: u64, out: &m
 fn check_selected(selector: Selector, length: Length, radius: Radius) -> Verdict
     ensures { λ r. ⌜ verdictMeaning r ≡ firstOf (selectedChecks (selector .0) (length .0) (radius .0)) (0 ∷ []) ⌝ }
 {
-    if 1 < selector.0 {
+    if 2 < selector.0 {
         return Verdict::Refused(Refusal::NoSuchEnumeration);
     }
-    check_shell(length, radius)
+    check_shell(field_of(select(selector)), length, radius)
 }
 
 // What index does in a usable shell: the checks 4 and 5, and the work.
@@ -92,7 +94,7 @@ fn index_usable(numbering: Numbering, x: &[i32]) -> Indexed
     Indexed::At(numbering::inner::index(numbering, x))
 }
 
-// What point does in a usable shell: the checks 4 and 6, and the work.
+// What point does in a usable shell: the checks 4, 6 and 15, and the work.
 fn point_usable(numbering: Numbering, n: u64, out: &mut [i32]) -> Pointed
     requires { ⌜ Usable numbering ⌝ }
     ensures { λ r. ⌜ (pointMeaning r
@@ -109,6 +111,7 @@ fn point_usable(numbering: Numbering, n: u64, out: &mut [i32]) -> Pointed
             write_point(numbering, n, found, out);
             Pointed::Written
         }
+        Sought::Empty => Pointed::Refused(Refusal::EmptyShape),
         Sought::Past { total } => Pointed::Refused(Refusal::IndexPastEnd {
             distance: n - total,
         }),

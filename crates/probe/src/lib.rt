@@ -25,7 +25,8 @@ ghost use Rattle.answers.specs.Checks.{numberSaid};
 ghost use Rattle.answers.specs.Refusals.{meaning};
 ghost use Rattle.tables.specs.Table.{checkSays};
 ghost use Rattle.pairing.specs.Meanings.{checkMeaning};
-ghost use Rattle.points.specs.Calls.{indexSays, pointMeaning, pointSays, pointLeaves};
+ghost use Rattle.indexing.specs.Calls.{indexSays, pointSays, pointLeaves};
+ghost use Rattle.points.specs.Meanings.{pointMeaning};
 ghost use Rattle.quantizer.specs.Calls.{quantizeMeaning, quantizeSays, quantizeLeaves};
 ghost use Rattle.probe.specs.Coded.{coded, valued};
 

@@ -3,17 +3,19 @@ use Prim.Native.Nat.{ℕ, _≤_, _<_}
 use mathlib.Core.Path.{_≡_}
 use mathlib.Core.List.{List}
 use lib.IntN.{ℤ}
-use Rattle.counts.specs.Counts.{N, D, S, O}
+use Rattle.counts.specs.Counts.{D, S, rangeStart}
+use Rattle.counts.specs.Fields.{sizeOf, fieldTotal}
+use Rattle.counts.specs.declared.Field.{Field}
 use Rattle.tables.specs.Usable.{IsUsable}
 use Rattle.enumeration.specs.Reading.{rangeOf, pointFrom}
 use Rattle.product.specs.declared.inner.components.Components.{Components}
 
--- an index of a usable shell, with the s and the start of its range
-pub record IsIndexOf (l k n s start : ℕ) : Type 0 where
-  pub usable : IsUsable l k (N l k)
-  pub index-below : n < N l k
-  pub range-s : s ≡ rangeOf l k n
-  pub range-start : start ≡ O s l k
+-- an index of a usable shell whose shapes have the field f, with the s and the start of its range
+pub record IsIndexOf (f : Field) (l k n s start : ℕ) : Type 0 where
+  pub usable : IsUsable l k (fieldTotal (sizeOf f) l k)
+  pub index-below : n < fieldTotal (sizeOf f) l k
+  pub range-s : s ≡ rangeOf (sizeOf f) l k n
+  pub range-start : start ≡ rangeStart (sizeOf f) s l k
 
 -- components from which a point of length l can be written
 pub record MakesPoint (components : Components) (l : ℕ) : Type 0 where

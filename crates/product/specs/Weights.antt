@@ -7,7 +7,7 @@ use mathlib.Core.List.{List, [], _∷_}
 use mathlib.Core.Bool.{Bool}
 use lib.IntN.{ℤ}
 use lib.ListN.{length}
-use Rattle.counts.specs.Counts.{D, S, B, O}
+use Rattle.counts.specs.Counts.{D, S, B, rangeStart}
 use Rattle.enumeration.specs.Point.{sumOf, radiusOf, patternIn, nonzerosIn, shapeIn, signsIn}
 use Rattle.enumeration.specs.Product.{patternIndex, signBit, signIndex, indexFrom}
 use Rattle.product.specs.declared.inner.weigh.Weight.{Weight}
@@ -58,18 +58,19 @@ pub record Room (behind : Weight) (i : ℕ) (negative : Bool) (left : ℕ) : Typ
   pub sign-to : signBit negative * B (behind .s) + behind .sign ≤ 2 ^ 16
 
 -- what an index keeps to on the way: it is at most 2^32, and so is the number of blocks of 2^s before it in its range
-pub record Summable (w : Weight) (start shapes signs : ℕ) : Type 0 where
+pub record Summable (w : Weight) (start shapes room signs : ℕ) : Type 0 where
   pub after-below : w .after < shapes
-  pub block-to : w .pattern * shapes + (shapes - 1 - w .after) ≤ 2 ^ 32
-  pub index-to : start + (w .pattern * shapes + (shapes - 1 - w .after)) * signs + w .sign ≤ 2 ^ 32
+  pub block-to : w .pattern * room + (shapes - 1 - w .after) ≤ 2 ^ 32
+  pub index-to : start + (w .pattern * room + (shapes - 1 - w .after)) * signs + w .sign ≤ 2 ^ 32
 
--- the index that a weight makes up in a shell (docs/RULES.md, "The product index", "Index")
-abbrev pub weighed : ℕ → ℕ → Weight → ℕ
-weighed l k w = indexFrom (w .s) l k (w .pattern) (S (w .s) k - 1 - w .after) (w .sign)
+-- the index that a weight makes up in a shell whose shapes have the field F (docs/RULES.md, "The product index",
+-- "Index")
+abbrev pub weighed : (ℕ → ℕ → ℕ) → ℕ → ℕ → Weight → ℕ
+weighed F l k w = indexFrom F (w .s) l k (w .pattern) (S (w .s) k - 1 - w .after) (w .sign)
 
 -- what it keeps to; without nonzero coordinates it is 0
-pub record Weighable (l k : ℕ) (w : Weight) : Type 0 where
+pub record Weighable (F : ℕ → ℕ → ℕ) (l k : ℕ) (w : Weight) : Type 0 where
   pub s-to-length : w .s ≤ l
   pub s-to-radius : w .s ≤ k
-  pub none : w .s ≡ 0 → 0 ≡ weighed l k w
-  pub sums : Summable w (O (w .s) l k) (S (w .s) k) (B (w .s))
+  pub none : w .s ≡ 0 → 0 ≡ weighed F l k w
+  pub sums : Summable w (rangeStart F (w .s) l k) (S (w .s) k) (F (w .s) k) (B (w .s))

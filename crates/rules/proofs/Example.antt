@@ -2,11 +2,12 @@
 use mathlib.Core.Path.{refl}
 use lib.Ieee.{toBits, round}
 use Rattle.counts.specs.Counts.{N, binomial, D, S, B, sumAfter, rangeSize, rangeStart}
+use Rattle.counts.specs.Fields.{bitField, fieldTotal}
 use Rattle.counts.specs.Distance.{distance}
 use Rattle.counts.specs.Width.{width, bitsFrom}
 use Rattle.enumeration.specs.Product.{patternIndex, shapeOffset, shapeIndex, signIndex, indexFrom, productIndex}
 use Rattle.enumeration.specs.Among.{firstAmong, leftAmong}
-use Rattle.enumeration.specs.Reading.{rangeFrom, rangeOf, patternOf, shapeOf, signsOf, pointFrom, pointWithin, productPoint}
+use Rattle.enumeration.specs.Reading.{rangeFrom, rangeOf, patternOf, shapeOf, signsOf, pointFrom, pointWithin, productPoint, namesWithin, productNames}
 use Rattle.floats.specs.Exact.{over256}
 use Rattle.enumeration.specs.Enumerations.{selectedBy}
 use Rattle.tables.specs.Row.{byteOf, enumerationOf, badRadius, badRadii, badRow}
@@ -18,7 +19,7 @@ use Rattle.rules.specs.Tallying.{countOf}
 use Rattle.rules.specs.Example.{Example}
 
 pub example : Example
-unfolding toBits round N binomial D S B sumAfter rangeSize rangeStart distance width bitsFrom patternIndex shapeOffset shapeIndex signIndex indexFrom productIndex rangeFrom rangeOf patternOf firstAmong leftAmong shapeOf signsOf pointFrom pointWithin productPoint over256 byteOf selectedBy enumerationOf badRadius badRadii badRow rowAt placesBefore rowsBefore stateAt recordAt setCell claims badCell takeCell refusals arrive after partsFrom judgeCodeword judgeRecord judge countOf
+unfolding toBits round N binomial D S B sumAfter rangeSize rangeStart bitField fieldTotal distance width bitsFrom patternIndex shapeOffset shapeIndex signIndex indexFrom productIndex rangeFrom rangeOf patternOf firstAmong leftAmong shapeOf signsOf pointFrom pointWithin productPoint namesWithin productNames over256 byteOf selectedBy enumerationOf badRadius badRadii badRow rowAt placesBefore rowsBefore stateAt recordAt setCell claims badCell takeCell refusals arrive after partsFrom judgeCodeword judgeRecord judge countOf
 example =
     record {
       empty-page = refl;
@@ -74,6 +75,19 @@ example =
       codeword-32 = refl;
       codeword-0-0 = refl;
       codeword-0-1 = refl;
+      bits-sound = refl;
+      bits-empty = refl;
+      bits-mended = refl;
+      bits-mended-empty = refl;
+      bits-wide = refl;
+      bits-radius-0 = refl;
+      product-says = refl;
+      product-leaves = refl;
+      empty-says = refl;
+      empty-leaves = refl;
+      coefficient-empty = refl;
+      empty-carries = refl;
+      tallied-empty = refl;
       field-sound = refl;
       field-mended = refl;
       field-missing = refl;

@@ -9,7 +9,7 @@ use Rattle.answers.specs.Checks.{Passes}
 use Rattle.tables.specs.Table.{placesIn, Good, rowOf}
 use Rattle.records.specs.Record.{placeIn}
 use Rattle.layout.proofs.Cells.{empty-size, empty-cell}
-use Rattle.layout.specs.Layout.{cellAt, emptyPage}
+use Rattle.layout.specs.Layout.{emptyPage}
 use Rattle.rules.specs.Taking.{badCell, badAt, pageChecks, refusals, Received, arrive, after, empty, grown}
 use Rattle.rules.proofs.Arrivals.{ready-after, bad-unmoved}
 use Rattle.rules.proofs.CellAfter.{after-ready}

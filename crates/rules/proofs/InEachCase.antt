@@ -1,7 +1,7 @@
 -- The answer of a cell by its cases (docs/RULES.md, "Reading a place"): what holds of the answer in each of them holds
 -- of the answer, whatever the row and the cell.
 use Prim.Native.Nat.{ℕ, zero, suc, _^_, _≤_, _<_}
-use mathlib.Core.Bool.{Bool, true, false}
+use mathlib.Core.Bool.{Bool, true, false, not}
 use mathlib.Core.List.{List}
 use mathlib.Core.Path.{_≡_, refl}
 use lib.Dec.{leb, ltb}
@@ -12,7 +12,7 @@ use Rattle.tables.specs.Row.{radiiOf, radiusAt, shellTotal}
 use Rattle.records.specs.Record.{radiusNumberIn, codewordIn}
 use Rattle.layout.specs.Layout.{Cell}
 use Rattle.rules.specs.Taking.{byState}
-use Rattle.rules.specs.Judging.{mendedAs, judgeCodeword, judgeRecord, judge}
+use Rattle.rules.specs.Judging.{mendedIndex, mendedAs, judgeCodeword, indexNames, judgeRecord, judge}
 use Rattle.rules.specs.declared.Judged.{Judged}
 use Rattle.rules.specs.declared.Judged.the-variants as judged
 
@@ -35,26 +35,39 @@ module _ (row : List ℕ) (c : Cell) where
     pub contested : P judged.Contested
     pub no-radius : P (judged.Unreadable 10)
     pub too-wide : P (judged.Unreadable 14)
-    pub sound : radiusNumber < radiiOf row → codeword < total → P (judged.Sound radius codeword)
+    pub empty-shape : P (judged.Unreadable 15)
+    pub sound : radiusNumber < radiiOf row → codeword < total → indexNames row radius codeword ≡ true → P (judged.Sound radius codeword)
     pub mended : radiusNumber < radiiOf row → codeword < 2 ^ width total → total ≤ codeword
-        → P (mendedAs total radius codeword)
+        → indexNames row radius (mendedIndex total codeword) ≡ true → P (mendedAs total radius codeword)
 
   module _ (P : Judged → Type 0) (each : EachCase P) where
-    codeword-case : radiusNumber < radiiOf row → P (judgeCodeword total radius codeword)
+    -- below the total, or from it on, with the index n left
+    index-case : (n : ℕ) {answer : Judged} → (indexNames row radius n ≡ true → P answer)
+        → P (pick (not (indexNames row radius n)) (judged.Unreadable 15) answer)
+    index-case n {answer} named = go (indexNames row radius n) refl
+      where
+        go : (b : Bool) → indexNames row radius n ≡ b → P (pick (not b) (judged.Unreadable 15) answer)
+        go true e = named e
+        go false e = each .empty-shape
+
+    codeword-case : radiusNumber < radiiOf row → P (judgeCodeword (indexNames row radius) total radius codeword)
     unfolding judgeCodeword
     codeword-case h = go (leb (2 ^ width total) codeword) (ltb codeword total) refl refl
       where
         go : (a b : Bool) → leb (2 ^ width total) codeword ≡ a → ltb codeword total ≡ b
-            → P (pick a (judged.Unreadable 14) (pick b (judged.Sound radius codeword) (mendedAs total radius codeword)))
+            → P (pick a (judged.Unreadable 14)
+            (pick (not (indexNames row radius (pick b codeword (mendedIndex total codeword)))) (judged.Unreadable 15)
+            (pick b (judged.Sound radius codeword) (mendedAs total radius codeword))))
         go true b e f = each .too-wide
-        go false true e f = each .sound h (ltb-true codeword total f)
-        go false false e f = each .mended h (leb-false (2 ^ width total) codeword e) (ltb-false codeword total f)
+        go false true e f = index-case codeword (each .sound h (ltb-true codeword total f))
+        go false false e f =
+            index-case (mendedIndex total codeword) (each .mended h (leb-false (2 ^ width total) codeword e) (ltb-false codeword total f))
 
     record-case : P (judgeRecord row (c .bytes))
     unfolding judgeRecord
     record-case = go (leb (radiiOf row) radiusNumber) refl
       where
-        go : (b : Bool) → leb (radiiOf row) radiusNumber ≡ b → P (pick b (judged.Unreadable 10) (judgeCodeword total radius codeword))
+        go : (b : Bool) → leb (radiiOf row) radiusNumber ≡ b → P (pick b (judged.Unreadable 10) (judgeCodeword (indexNames row radius) total radius codeword))
         go true e = each .no-radius
         go false e = codeword-case (leb-false (radiiOf row) radiusNumber e)
 

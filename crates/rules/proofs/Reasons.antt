@@ -1,4 +1,4 @@
--- An unreadable place has the reason 10 or 14, whatever the row and the cell: no reader, no tally and no line has
+-- An unreadable place has the reason 10, 14 or 15, whatever the row and the cell: no reader, no tally and no line has
 -- another one to tell. That a held record is of the row is a matter of refusal 12 alone.
 use Prim.Native.Nat.{ℕ}
 use mathlib.Core.List.{List}
@@ -18,9 +18,10 @@ judge-reasoned row c =
       missing = tt;
       contested = tt;
       no-radius = inl refl;
-      too-wide = inr refl;
-      sound = λ h below. tt;
-      mended = λ h inside above. tt;
+      too-wide = inr (inl refl);
+      empty-shape = inr (inr refl);
+      sound = λ h below named. tt;
+      mended = λ h inside above named. tt;
     })
 
 -- so 9 is no reason
@@ -30,4 +31,5 @@ no-nine (judged.Mended k n d) r e = omega arith
 no-nine judged.Missing r e = omega arith
 no-nine judged.Contested r e = omega arith
 no-nine (judged.Unreadable reason) (inl ten) e = omega arith
-no-nine (judged.Unreadable reason) (inr fourteen) e = omega arith
+no-nine (judged.Unreadable reason) (inr (inl fourteen)) e = omega arith
+no-nine (judged.Unreadable reason) (inr (inr fifteen)) e = omega arith

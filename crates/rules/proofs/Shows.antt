@@ -1,18 +1,18 @@
 -- What a place shows: its index, mended or not, names a point of a usable shell of the row, for any lawful enumeration;
 -- and a mended place tells the codeword that was received.
-use Prim.Native.Nat.{ℕ, zero, suc, _-_, _^_, _≤_, _<_}
+use Prim.Native.Nat.{ℕ, zero, suc, _≤_, _<_}
 use mathlib.Core.Path.{_≡_, refl, ap}
+use mathlib.Core.Bool.{true}
 use mathlib.Core.List.{List, _∷_}
 use native.Mathlib.Omega.{arith}
 use lib.IntN.{pos}
 use lib.ListN.{replicate, length-replicate}
-use Rattle.counts.specs.Width.{width}
-use Rattle.enumeration.specs.Enumeration.{Enumeration, Lawful, Full}
+use Rattle.enumeration.specs.Enumeration.{Enumeration, Lawful}
 use Rattle.enumeration.specs.Point.{OnShell, radiusOf}
 use Rattle.tables.specs.Row.{lengthOf, radiiOf, enumerationOf, GoodRow}
 use Rattle.records.specs.Record.{codewordIn}
 use Rattle.layout.specs.Layout.{Cell}
-use Rattle.rules.specs.Judging.{judge, NamesPoint, Shows, TellsCodeword}
+use Rattle.rules.specs.Judging.{mendedIndex, indexNames, judge, NamesPoint, Shows, TellsCodeword}
 use Rattle.rules.proofs.InEachCase.{radiusNumber, radius, total, codeword, in-each}
 use Rattle.rules.proofs.Mending.{mended-below, mends}
 
@@ -41,27 +41,24 @@ module _ (row : List ℕ) (lawful : Lawful (enumerationOf row)) (good : GoodRow 
         contested = tt;
         no-radius = tt;
         too-wide = tt;
-        sound = λ h below. tt;
-        mended = λ h inside above. mends (total row c) (codeword row c) some inside above;
+        empty-shape = tt;
+        sound = λ h below named. tt;
+        mended = λ h inside above named. mends (total row c) (codeword row c) some inside above;
       })
 
-  -- and where every index below the total names a point
-  module _ (full : Full (enumerationOf row)) where
-    named : (m : ℕ) → radiusNumber row c < radiiOf row → m < total row c → NamesPoint row (radius row c) m
-    named m h below = record {
-      usable = good .radius-usable (radiusNumber row c) h;
-      below = below;
-      named = full (lengthOf row) (radius row c) m below;
-    }
+  shows-named : (m : ℕ) → radiusNumber row c < radiiOf row → m < total row c → indexNames row (radius row c) m ≡ true → NamesPoint row (radius row c) m
+  shows-named m h below named = record { usable = good .radius-usable (radiusNumber row c) h; below = below; named = named }
 
-    pub judge-shows : Shows row (judge row c)
-    judge-shows =
-        in-each row c (Shows row)
-        (record {
-          missing = tt;
-          contested = tt;
-          no-radius = tt;
-          too-wide = tt;
-          sound = named (codeword row c);
-          mended = λ h inside above. named (codeword row c - 2 ^ (width (total row c) - 1)) h (mended-below (total row c) (codeword row c) some inside above);
-        })
+  pub judge-shows : Shows row (judge row c)
+  judge-shows =
+      in-each row c (Shows row)
+      (record {
+        missing = tt;
+        contested = tt;
+        no-radius = tt;
+        too-wide = tt;
+        empty-shape = tt;
+        sound = shows-named (codeword row c);
+        mended = λ h inside above.
+            shows-named (mendedIndex (total row c) (codeword row c)) h (mended-below (total row c) (codeword row c) some inside above);
+      })

@@ -1,6 +1,7 @@
 -- The whole case (docs/RULES.md, "Worked cases"), taken, read and tallied by the definitions, and single cells of
--- its table: length 3, radii 0 and 2, so that N is 18 and b is 5. Pages are written out byte for byte, a state and
--- a record for each place, and so is what is said. proofs/Example.antt computes every line.
+-- its table: length 3, radii 0 and 2, so that N is 18 and b is 5; and cells of a product-product row. Pages are
+-- written out byte for byte, a state and a record for each place, and so is what is said. proofs/Example.antt computes
+-- every line.
 use Prim.Native.Nat.{ℕ}
 use mathlib.Core.Path.{_≡_}
 use mathlib.Core.List.{List, [], _∷_, _++_, map}
@@ -8,12 +9,13 @@ use mathlib.Core.Bool.{true, false}
 use lib.Ieee.{binary32, toBits}
 use lib.IntN.{ℤ, pos, negsuc}
 use lib.ListN.{take, drop, replicate}
-use Rattle.tables.specs.Example.{wholeCase, ofPlaces}
+use Rattle.tables.specs.Example.{wholeCase, ofPlaces, ofShell}
 use Rattle.layout.specs.Layout.{Cell, emptyPage}
 use Rattle.rules.specs.Taking.{claims, badCell, takeSays, takeLeaves, collected}
 use Rattle.rules.specs.Judging.{judge, reasonOrDistance}
 use Rattle.rules.specs.Reading.{readSays, readLeaves, coefficientSays, coefficientCarries}
 use Rattle.rules.specs.Tallying.{tallySays}
+use Rattle.rules.specs.declared.Judged.{Judged}
 use Rattle.rules.specs.declared.Judged.the-variants as judged
 
 -- a record of that table: place, row, radius number, and the last byte of the codeword
@@ -97,6 +99,22 @@ mixed =
 abbrev pub step-775 : List ℕ
 step-775 = take 10 wholeCase ++ 3 ∷ 7 ∷ drop 12 wholeCase
 
+-- Length 2, radii 0 and 4: a row of the product enumeration, with 16 points, and one of the product-product
+-- enumeration, with 20 indices. Places 0 and 1 are in the first row, places 2 and 3 in the second. The page holds the
+-- codeword 12 at place 1 and at place 2.
+abbrev pub bitRow : List ℕ
+bitRow = ofShell 2 2 4
+
+abbrev pub fields : List ℕ
+fields = ofShell 0 2 4 ++ bitRow
+
+abbrev pub twelves : List ℕ
+twelves = replicate 9 0 ++ 1 ∷ of 1 0 1 12 ++ 1 ∷ of 2 1 1 12 ++ replicate 9 0
+
+-- what the codewords of place 0 are judged to be in the product-product row
+abbrev pub judgedBits : List ℕ → List Judged
+judgedBits codewords = map (λ (n : ℕ). judge bitRow (held (of 0 0 1 n))) codewords
+
 abbrev pub zeros : List ℤ
 zeros = replicate 3 (pos 0)
 
@@ -169,6 +187,22 @@ pub record Example : Type 0 where
   pub codeword-32 : judge wholeCase (held (of 0 0 1 32)) ≡ judged.Unreadable 14
   pub codeword-0-0 : judge wholeCase (held (of 0 0 0 0)) ≡ judged.Sound 0 0
   pub codeword-0-1 : judge wholeCase (held (of 0 0 0 1)) ≡ judged.Unreadable 14
+  -- codewords of the product-product row, whose total is 20 and b is 5: up to 11, and from 16 on, an index names a
+  -- point; 12 to 15 have an empty shape, and so have those that mend to them
+  pub bits-sound : judgedBits (11 ∷ 16 ∷ 19 ∷ []) ≡ judged.Sound 4 11 ∷ judged.Sound 4 16 ∷ judged.Sound 4 19 ∷ []
+  pub bits-empty : judgedBits (12 ∷ 13 ∷ 14 ∷ 15 ∷ []) ≡ replicate 4 (judged.Unreadable 15)
+  pub bits-mended : judgedBits (20 ∷ 27 ∷ []) ≡ judged.Mended 4 4 0 ∷ judged.Mended 4 11 7 ∷ []
+  pub bits-mended-empty : judgedBits (28 ∷ 29 ∷ 30 ∷ 31 ∷ []) ≡ replicate 4 (judged.Unreadable 15)
+  pub bits-wide : judgedBits (32 ∷ 44 ∷ []) ≡ replicate 2 (judged.Unreadable 14)
+  pub bits-radius-0 : judge bitRow (held (of 0 0 0 0)) ≡ judged.Sound 0 0
+  -- each row is read by its own enumeration: 12 is (0,4) in the first, and has an empty shape in the second
+  pub product-says : readSays fields twelves 1 (take 2 nines) ≡ 0 ∷ 0 ∷ 0 ∷ []
+  pub product-leaves : readLeaves fields twelves 1 (take 2 nines) ≡ pos 0 ∷ pos 4 ∷ []
+  pub empty-says : readSays fields twelves 2 (take 2 nines) ≡ 0 ∷ 4 ∷ 15 ∷ []
+  pub empty-leaves : readLeaves fields twelves 2 (take 2 nines) ≡ take 2 zeros
+  pub coefficient-empty : coefficientSays fields twelves 2 1 ≡ 0 ∷ 4 ∷ 15 ∷ []
+  pub empty-carries : coefficientCarries fields twelves 2 1 ≡ []
+  pub tallied-empty : tallySays fields twelves ≡ 0 ∷ 1 ∷ 0 ∷ 2 ∷ 0 ∷ 1 ∷ []
   -- the reason or the distance in one field
   pub field-sound : reasonOrDistance (judged.Sound 2 17) ≡ 0
   pub field-mended : reasonOrDistance (judged.Mended 2 4 2) ≡ 2

@@ -3,7 +3,7 @@
 use Prim.Native.Nat.{ℕ, _+_, _-_, _^_, _<_}
 use mathlib.Core.List.{List, [], _∷_}
 use mathlib.Core.Path.{_≡_}
-use mathlib.Core.Bool.{true}
+use mathlib.Core.Bool.{Bool, true, not}
 use mathlib.Core.Logic.{_⊎_}
 use lib.Dec.{leb, ltb}
 use lib.IntN.{ℤ, pos}
@@ -20,19 +20,32 @@ use Rattle.rules.specs.Taking.{byState}
 use Rattle.rules.specs.declared.Judged.{Judged}
 use Rattle.rules.specs.declared.Judged.the-variants as judged
 
--- mended: 2^(b-1) is subtracted from the codeword n, whose distance is kept. N is any total, k the radius.
+-- mended: 2^(b-1) is subtracted from the codeword n. The total is any.
+abbrev pub mendedIndex : ℕ → ℕ → ℕ
+mendedIndex total n = n - 2 ^ (width total - 1)
+
+-- the index that a codeword leaves: itself below the total, and otherwise the mended one
+abbrev pub indexLeft : ℕ → ℕ → ℕ
+indexLeft total n = pick (ltb n total) n (mendedIndex total n)
+
+-- a mended codeword keeps its distance; k is the radius
 abbrev pub mendedAs : ℕ → ℕ → ℕ → Judged
-mendedAs total k n = judged.Mended k (n - 2 ^ (width total - 1)) (distance total n)
+mendedAs total k n = judged.Mended k (mendedIndex total n) (distance total n)
 
--- codeword 2^b or more: unreadable 14; below N: sound; otherwise mended
-unfoldable pub judgeCodeword : ℕ → ℕ → ℕ → Judged
-judgeCodeword total k n =
+-- codeword 2^b or more: unreadable 14; an empty shape, also after mending: unreadable 15; below the total: sound;
+-- otherwise mended. `names` is whether an index names a point.
+unfoldable pub judgeCodeword : (ℕ → Bool) → ℕ → ℕ → ℕ → Judged
+judgeCodeword names total k n =
     pick (leb (2 ^ width total) n) (judged.Unreadable 14)
-    (pick (ltb n total) (judged.Sound k n) (mendedAs total k n))
+    (pick (not (names (indexLeft total n))) (judged.Unreadable 15)
+    (pick (ltb n total) (judged.Sound k n) (mendedAs total k n)))
 
--- a codeword of the shell of radius k in a row
+-- a codeword of the shell of radius k in a row, by the row's own enumeration
+abbrev pub indexNames : List ℕ → ℕ → ℕ → Bool
+indexNames row k n = enumerationOf row .names (lengthOf row) k n
+
 abbrev pub judgeIn : List ℕ → ℕ → ℕ → Judged
-judgeIn row k n = judgeCodeword (shellTotal row k) k n
+judgeIn row k n = judgeCodeword (indexNames row k) (shellTotal row k) k n
 
 -- radius number not in the row: unreadable 10; that the record is of this row was asked before, by refusal 12
 unfoldable pub judgeRecord : List ℕ → List ℕ → Judged
@@ -80,13 +93,13 @@ reasonOrDistance judged.Missing = 0
 reasonOrDistance judged.Contested = 0
 reasonOrDistance (judged.Unreadable reason) = reason
 
--- an unreadable place has the reason 10 or 14, and no other; proofs/Reasons.antt has it of every row and every cell
+-- an unreadable place has the reason 10, 14 or 15, and no other; proofs/Reasons.antt has it of every row and every cell
 abbrev pub Reasoned : Judged → Type 0
 Reasoned (judged.Sound k n) = Unit {0}
 Reasoned (judged.Mended k n d) = Unit {0}
 Reasoned judged.Missing = Unit {0}
 Reasoned judged.Contested = Unit {0}
-Reasoned (judged.Unreadable reason) = (reason ≡ 10) ⊎ (reason ≡ 14)
+Reasoned (judged.Unreadable reason) = (reason ≡ 10) ⊎ ((reason ≡ 14) ⊎ (reason ≡ 15))
 
 -- the point that n names in the shell of radius k
 abbrev pub pointNamed : List ℕ → ℕ → ℕ → List ℤ
@@ -104,7 +117,7 @@ shown row (judged.Unreadable reason) = replicate (lengthOf row) (pos 0)
 pub record NamesPoint (row : List ℕ) (k n : ℕ) : Type 0 where
   pub usable : IsUsable (lengthOf row) k (shellTotal row k)
   pub below : n < shellTotal row k
-  pub named : enumerationOf row .names (lengthOf row) k n ≡ true
+  pub named : indexNames row k n ≡ true
 
 -- what a place shows is such a point; proofs/Shows.antt has it of every cell in a good row
 abbrev pub Shows : List ℕ → Judged → Type 0
@@ -114,8 +127,8 @@ Shows row judged.Missing = Unit {0}
 Shows row judged.Contested = Unit {0}
 Shows row (judged.Unreadable reason) = Unit {0}
 
--- what is told of the codeword that was received, n being the index that is left of it: the distance d is below
--- 2^b - N, n plus 2^(b-1) is N plus d, and that is the codeword
+-- what is told of the codeword that was received, n being the index that is left of it: the distance d is below 2^b
+-- less the total, n plus 2^(b-1) is the total plus d, and that is the codeword
 pub record Mends (total codeword n d : ℕ) : Type 0 where
   pub below : d < 2 ^ width total - total
   pub left : n + 2 ^ (width total - 1) ≡ total + d

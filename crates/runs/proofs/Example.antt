@@ -1,6 +1,7 @@
 -- Every line of the example holds by computation.
 use mathlib.Core.Path.{refl}
 use Rattle.counts.specs.Counts.{N, binomial, D, S, B, sumAfter, rangeSize, rangeStart}
+use Rattle.counts.specs.Fields.{fieldTotal}
 use Rattle.enumeration.specs.Product.{patternIndex, shapeOffset, shapeIndex, signIndex, indexFrom, productIndex}
 use Rattle.floats.specs.Units.{ofPattern, unitsOf, unusableCoefficient, negative}
 use Rattle.floats.specs.Nearest.{nearestWhole}
@@ -18,7 +19,7 @@ use Rattle.runs.specs.Run.{coordinatesBefore}
 use Rattle.runs.specs.Example.{Example}
 
 pub example : Example
-unfolding N binomial D S B sumAfter rangeSize rangeStart patternIndex shapeOffset shapeIndex signIndex indexFrom productIndex byteOf selectedBy enumerationOf badRadius badRadii badRow rowAt placesBefore rowsBefore ofPattern unitsOf unusableCoefficient negative nearestWhole toBits lt firstBest chosenRadiusNumber largest give shared recordOf joined coordinatesBefore eachFour ofBits ofFields odd
+unfolding N binomial D S B sumAfter rangeSize rangeStart fieldTotal patternIndex shapeOffset shapeIndex signIndex indexFrom productIndex byteOf selectedBy enumerationOf badRadius badRadii badRow rowAt placesBefore rowsBefore ofPattern unitsOf unusableCoefficient negative nearestWhole toBits lt firstBest chosenRadiusNumber largest give shared recordOf joined coordinatesBefore eachFour ofBits ofFields odd
 example =
     record {
       before-0 = refl;

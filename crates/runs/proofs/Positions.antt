@@ -1,18 +1,17 @@
 -- Where the coordinates of each place stand in a run.
 use Prim.Native.Nat.{ℕ, zero, suc, _+_, _-_, _*_, _≤_, _<_}
 use mathlib.Core.List.{List}
-use mathlib.Core.Path.{_≡_, refl, sym, ap, _∙_}
-use native.Mathlib.Nat.{add-zero, zero-mul, mul-zero, mul-suc}
+use mathlib.Core.Path.{_≡_, refl}
+use native.Mathlib.Nat.{add-zero, zero-mul}
 use native.Mathlib.Omega.{arith}
 use lib.Ieee.{Float}
 use lib.ListN.{length, drop, length-drop}
 use lib.Seq.{length-take-le}
-use Rattle.tables.proofs.Good.{good-place, good-row, places-to}
+use Rattle.tables.proofs.Good.{good-place, places-to}
 use Rattle.tables.proofs.Places.{place-in}
 use Rattle.tables.proofs.Rows.{total-next}
-use Rattle.tables.proofs.Walking.{first-place}
 use Rattle.tables.specs.Row.{lengthOf, placesOf}
-use Rattle.tables.specs.Table.{rowsOf, rowAt, placesBefore, placesIn, rowOf, lengthFor, Good}
+use Rattle.tables.specs.Table.{rowsOf, rowAt, placesBefore, placesIn, lengthFor, Good}
 use Rattle.runs.specs.Run.{coordinatesBefore, coordinatesIn, vectorFor}
 
 module _ (t : List ℕ) where

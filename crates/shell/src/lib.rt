@@ -3,15 +3,16 @@
 
 use answers::Refusal;
 use answers::Verdict;
+use counts::Field;
 use counts::Length;
 use counts::Radius;
+use ranges::inner::index_count;
 use ranges::inner::largest_radius;
-use ranges::inner::point_count;
 ghost use mathlib.Core.Path.{_≡_};
 ghost use mathlib.Core.List.{[], _∷_};
 ghost use Rattle.answers.specs.Checks.{firstOf};
 ghost use Rattle.answers.specs.Refusals.{verdictMeaning};
-ghost use Rattle.counts.specs.Counts.{N};
+ghost use Rattle.counts.specs.Fields.{sizeOf, fieldTotal};
 ghost use Rattle.counts.specs.Width as widths;
 ghost use Rattle.tables.specs.Usable.{shellChecks};
 ghost use Rattle.shell.specs.Shell.{countMeaning, countSays};
@@ -25,15 +26,17 @@ pub enum Counted {
 pub fn count(length: Length, radius: Radius) -> Counted
     ensures { λ r. ⌜ countMeaning r ≡ countSays (length .0) (radius .0) ⌝ }
 {
-    match check_shell(length, radius) {
-        Verdict::Passed => Counted::Points(point_count(length, radius)),
+    match check_shell(Field::Exact, length, radius) {
+        Verdict::Passed => Counted::Points(index_count(Field::Exact, length, radius)),
         Verdict::Refused(refusal) => Counted::Refused(refusal),
     }
 }
 
-// The checks 1, 2 and 3: those of count, and of index and point behind that of the selector.
-pub fn check_shell(length: Length, radius: Radius) -> Verdict
-    ensures { λ r. ⌜ verdictMeaning r ≡ firstOf (shellChecks (length .0) (radius .0) (N (length .0) (radius .0))) (0 ∷ []) ⌝ }
+// The checks 1, 2 and 3, by the total that a shape field makes: those of count, and of index and point behind that of
+// the selector.
+pub fn check_shell(field: Field, length: Length, radius: Radius) -> Verdict
+    ensures { λ r. ⌜ verdictMeaning r
+        ≡ firstOf (shellChecks (length .0) (radius .0) (fieldTotal (sizeOf field) (length .0) (radius .0))) (0 ∷ []) ⌝ }
 {
     if length.0 < 1 {
         return Verdict::Refused(Refusal::LengthOutside);
@@ -44,7 +47,7 @@ pub fn check_shell(length: Length, radius: Radius) -> Verdict
     if 32 < radius.0 {
         return Verdict::Refused(Refusal::RadiusAbove);
     }
-    if largest_radius(length) < radius.0 {
+    if largest_radius(field, length) < radius.0 {
         return Verdict::Refused(Refusal::ShellTooLarge);
     }
     Verdict::Passed
@@ -54,8 +57,5 @@ pub fn check_shell(length: Length, radius: Radius) -> Verdict
 pub fn width(n: u64) -> u32
     ensures { λ b. ⌜ b ≡ widths.width n ⌝ }
 {
-    if n <= 1 {
-        return 0;
-    }
-    64 - u64::leading_zeros(n - 1)
+    ranges::inner::width(n)
 }

@@ -1,6 +1,7 @@
 -- Every line of the example holds by computation.
 use mathlib.Core.Path.{refl}
-use Rattle.counts.specs.Counts.{N}
+use Rattle.counts.specs.Counts.{N, binomial, D, S, B, sumAfter, rangeSize, rangeStart}
+use Rattle.counts.specs.Fields.{fieldTotal}
 use Rattle.enumeration.specs.Enumerations.{selectedBy}
 use Rattle.tables.specs.Row.{byteOf, enumerationOf, badRadius, badRadii, badRow}
 use Rattle.tables.specs.Table.{rowAt, placesBefore, rowsBefore}
@@ -9,7 +10,7 @@ use Rattle.rules.specs.Taking.{badCell}
 use Rattle.slate.specs.Example.{Example}
 
 pub example : Example
-unfolding N byteOf selectedBy enumerationOf badRadius badRadii badRow rowAt placesBefore rowsBefore stateAt recordAt badCell
+unfolding N binomial D S B sumAfter rangeSize rangeStart fieldTotal byteOf selectedBy enumerationOf badRadius badRadii badRow rowAt placesBefore rowsBefore stateAt recordAt badCell
 example =
     record {
       count-3-2 = refl;

@@ -10,7 +10,7 @@ use Rattle.rules.specs.Taking.{takeSays}
 -- "the version of the header", include/aldrynja.h, and of the formats that its calls take: raised when a program
 -- that was built for the version before would be given something else
 abbrev pub version : ℕ
-version = 3
+version = 4
 
 -- "count gives N, or 0 where count is refused"
 abbrev pub countGives : ℕ → ℕ → ℕ

@@ -16,7 +16,7 @@ ghost use Rattle.slate.specs.Given.{version, countGives, takeGives};
 pub extern "C" fn aldrynja_version() -> u32
     ensures { λ n. ⌜ n ≡ version ⌝ }
 {
-    3
+    4
 }
 
 // The call count: N, or 0 for a refusal.

@@ -1,13 +1,14 @@
 -- Every line of the table of single values holds by computation.
 use mathlib.Core.Path.{refl}
 use Rattle.counts.specs.Counts.{N, binomial, D, S, B, sumAfter, rangeSize, rangeStart}
+use Rattle.counts.specs.Fields.{bitField, fieldTotal}
 use Rattle.counts.specs.Distance.{distance}
 use Rattle.counts.specs.Width.{width, bitsFrom}
 use Rattle.enumeration.specs.Product.{patternIndex, shapeOffset, shapeIndex, signIndex, indexFrom, productIndex}
 use Rattle.enumeration.specs.Among.{firstAmong, leftAmong}
 use Rattle.enumeration.specs.Enumerations.{selectedBy}
 use Rattle.enumeration.specs.Magnitude.{offset, magnitudeIndex, firstNonzero, firstValue, magnitudePoint}
-use Rattle.enumeration.specs.Reading.{rangeFrom, rangeOf, patternOf, shapeOf, signsOf, pointFrom, pointWithin, productPoint}
+use Rattle.enumeration.specs.Reading.{rangeFrom, rangeOf, patternOf, shapeOf, signsOf, pointFrom, pointWithin, productPoint, namesWithin, productNames}
 use Rattle.floats.specs.Units.{ofPattern, unitsOf, unusableCoefficient, negative}
 use Rattle.floats.specs.Nearest.{nearestWhole}
 use Rattle.tables.specs.Row.{byteOf, enumerationOf, badRadius, badRadii, badRow}
@@ -16,11 +17,12 @@ use Rattle.shares.specs.Best.{firstBest}
 use Rattle.coefficients.specs.Radius.{chosenRadiusNumber}
 use Rattle.shares.specs.Shares.{largest, give, shared}
 use Rattle.records.specs.Record.{recordOf}
+use Rattle.rules.specs.Judging.{judgeCodeword, judgeRecord, judge}
 use lib.Ieee.{toBits, lt}
 use Rattle.starred.specs.Table.{Table}
 
 pub proved : Table
-unfolding N binomial D S B sumAfter rangeSize rangeStart distance width bitsFrom patternIndex shapeOffset shapeIndex signIndex indexFrom productIndex rangeFrom rangeOf patternOf firstAmong leftAmong shapeOf signsOf pointFrom pointWithin productPoint offset magnitudeIndex firstNonzero firstValue magnitudePoint byteOf selectedBy enumerationOf badRadius badRadii badRow rowAt placesBefore rowsBefore ofPattern unitsOf unusableCoefficient negative nearestWhole toBits lt firstBest chosenRadiusNumber largest give shared recordOf
+unfolding N binomial D S B sumAfter rangeSize rangeStart bitField fieldTotal distance width bitsFrom patternIndex shapeOffset shapeIndex signIndex indexFrom productIndex rangeFrom rangeOf patternOf firstAmong leftAmong shapeOf signsOf pointFrom pointWithin productPoint namesWithin productNames offset magnitudeIndex firstNonzero firstValue magnitudePoint byteOf selectedBy enumerationOf badRadius badRadii badRow rowAt placesBefore rowsBefore ofPattern unitsOf unusableCoefficient negative nearestWhole toBits lt firstBest chosenRadiusNumber largest give shared recordOf judgeCodeword judgeRecord judge
 proved =
     record {
       star-index-0 = refl;
@@ -35,6 +37,16 @@ proved =
       magnitude-point-9 = refl;
       magnitude-point-18 = refl;
       magnitude-point-20 = refl;
+      star-bits-total = refl;
+      star-bits-width = refl;
+      star-bits-12-to-15 = refl;
+      star-bits-28 = refl;
+      bits-27 = refl;
+      bits-16 = refl;
+      bits-index-16 = refl;
+      bits-point-11 = refl;
+      bits-point-12 = refl;
+      bits-point-28 = refl;
       point-17 = refl;
       index-3 = refl;
       index-4-short = refl;

@@ -3,7 +3,7 @@
 use Prim.Native.Nat.{ℕ, _^_}
 use mathlib.Core.Path.{_≡_}
 use mathlib.Core.Bool.{true, false}
-use mathlib.Core.List.{List, [], _∷_, _++_}
+use mathlib.Core.List.{List, [], _∷_, _++_, map}
 use lib.Bits.{bitXor}
 use lib.Ieee.{Float, nan, fin}
 use lib.IntN.{ℤ, pos, negsuc, negℤ}
@@ -11,10 +11,14 @@ use lib.ListN.{take, replicate}
 use Rattle.counts.specs.Counts.{N}
 use Rattle.counts.specs.Width.{width}
 use Rattle.shell.specs.Shell.{countSays}
+use Rattle.enumeration.specs.Enumerations.{selectedBy}
 use Rattle.enumeration.specs.Example.{triple}
-use Rattle.tables.specs.Example.{wholeCase, twoRows}
+use Rattle.layout.specs.Layout.{Cell}
+use Rattle.rules.specs.Judging.{judge}
+use Rattle.rules.specs.declared.Judged.the-variants as judged
+use Rattle.tables.specs.Example.{wholeCase, twoRows, ofShell}
 use Rattle.tables.specs.Table.{rowAt}
-use Rattle.points.specs.Calls.{indexSays, pointSays, pointLeaves}
+use Rattle.indexing.specs.Calls.{indexSays, pointSays, pointLeaves}
 use Rattle.coding.specs.Coded.{pointFor}
 use Rattle.quantizer.specs.Calls.{quantizeSays, quantizeLeaves}
 use Rattle.coefficients.specs.Example.{vector}
@@ -33,6 +37,13 @@ longer = vector ++ fin false 0 (pos 0) ∷ fin true 0 (pos 0) ∷ []
 abbrev buffer : List ℤ
 buffer = triple (pos 9) (pos 9) (pos 9)
 
+-- a row of length 2 and radii 0 and 4 with selector 2, and a cell of place 0 with a codeword of radius 4
+abbrev bitRow : List ℕ
+bitRow = ofShell 2 2 4
+
+abbrev held-codeword : ℕ → Cell
+held-codeword n = record { state = 1; bytes = 0 ∷ 0 ∷ 0 ∷ 1 ∷ 0 ∷ 0 ∷ 0 ∷ n ∷ [] }
+
 pub record Table : Type 0 where
   -- * length 3, radius 2
   pub star-index-0 : indexSays 0 3 2 (triple (pos 0) (pos 1) (pos 1)) ≡ 0 ∷ 0 ∷ []
@@ -48,6 +59,18 @@ pub record Table : Type 0 where
   pub magnitude-point-9 : pointLeaves 1 3 2 9 buffer ≡ triple (pos 1) (pos 0) (negℤ (pos 1))
   pub magnitude-point-18 : pointSays 1 3 2 18 buffer ≡ 6 ∷ 0 ∷ []
   pub magnitude-point-20 : pointSays 1 3 2 20 buffer ≡ 6 ∷ 2 ∷ []
+  -- * length 2, radius 4 by the product-product enumeration: total 20, b = 5; 12 to 15 have an empty shape, and 28
+  -- mends to 12
+  pub star-bits-total : selectedBy 2 .total 2 4 ≡ 20
+  pub star-bits-width : width (selectedBy 2 .total 2 4) ≡ 5
+  pub star-bits-12-to-15 : map (λ (n : ℕ). judge bitRow (held-codeword n)) (12 ∷ 13 ∷ 14 ∷ 15 ∷ []) ≡ replicate 4 (judged.Unreadable 15)
+  pub star-bits-28 : judge bitRow (held-codeword 28) ≡ judged.Unreadable 15
+  pub bits-27 : judge bitRow (held-codeword 27) ≡ judged.Mended 4 11 7
+  pub bits-16 : judge bitRow (held-codeword 16) ≡ judged.Sound 4 16
+  pub bits-index-16 : indexSays 2 2 4 (pos 0 ∷ pos 4 ∷ []) ≡ 0 ∷ 16 ∷ []
+  pub bits-point-11 : pointLeaves 2 2 4 11 (take 2 buffer) ≡ negℤ (pos 3) ∷ negℤ (pos 1) ∷ []
+  pub bits-point-12 : pointSays 2 2 4 12 (take 2 buffer) ≡ 15 ∷ []
+  pub bits-point-28 : pointSays 2 2 4 28 (take 2 buffer) ≡ 6 ∷ 8 ∷ []
   pub point-17 : pointLeaves 0 3 2 17 buffer ≡ triple (negℤ (pos 2)) (pos 0) (pos 0)
   -- refusals 1 to 6 in their order, with two faults at once: 3 before 4, 4 before 5 and 6, a vector or buffer that
   -- is too short or too long

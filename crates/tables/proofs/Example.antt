@@ -1,13 +1,15 @@
 -- Every line of the example holds by computation.
 use mathlib.Core.Path.{refl}
-use Rattle.counts.specs.Counts.{N}
+use Rattle.counts.specs.Counts.{N, binomial, D, S, B, sumAfter, rangeSize, rangeStart}
+use Rattle.counts.specs.Fields.{bitField, fieldTotal}
+use Rattle.counts.specs.Width.{width, bitsFrom}
 use Rattle.enumeration.specs.Enumerations.{selectedBy}
 use Rattle.tables.specs.Row.{byteOf, enumerationOf, badRadius, badRadii, badRow}
 use Rattle.tables.specs.Table.{rowAt, placesBefore, rowsBefore}
 use Rattle.tables.specs.Example.{Example}
 
 pub example : Example
-unfolding N byteOf selectedBy enumerationOf badRadius badRadii badRow rowAt placesBefore rowsBefore
+unfolding N binomial D S B sumAfter rangeSize rangeStart width bitsFrom bitField fieldTotal byteOf selectedBy enumerationOf badRadius badRadii badRow rowAt placesBefore rowsBefore
 example =
     record {
       length-0 = refl;
@@ -47,8 +49,13 @@ example =
       unused-radius = refl;
       byte-14-of-1 = refl;
       byte-14-of-2 = refl;
+      byte-14-of-3 = refl;
       byte-15 = refl;
       byte-15-behind-1 = refl;
+      lost-9-27 = refl;
+      lost-10-22 = refl;
+      lost-13-15 = refl;
+      lost-16-12 = refl;
       most-points = refl;
       too-many = refl;
       shell-1 = refl;

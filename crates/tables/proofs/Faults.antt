@@ -8,27 +8,32 @@ use native.Mathlib.Omega.{arith}
 use native.Mathlib.Decide.{decLt, decLe}
 use lib.Dec.{eqb, leb, ltb}
 use borrow.Author.Tests.{lt-ltb, le-ltb}
-use Rattle.counts.specs.Counts.{N}
-use Rattle.enumeration.proofs.Selected.{selected-total}
+use Rattle.counts.specs.Fields.{sizeOf, fieldTotal}
+use Rattle.counts.specs.declared.Field.{Field}
 use Rattle.tables.specs.Largest.{largestRadius}
 use Rattle.tables.specs.Usable.{mostPoints, unusableShell}
 use Rattle.tables.proofs.Largest.{largest-to, usable-up-to, unusable-past}
-use Rattle.tables.specs.Row.{lengthOf, selectorOf, enumerationOf, radiiOf, radiusAt, unusableRadius, outOfOrder, badRadius, badRadii}
+use Rattle.tables.specs.Row.{lengthOf, radiiOf, radiusAt, shellTotal, unusableRadius, outOfOrder, badRadius, badRadii}
 
--- a shell of N points is unusable exactly above the largest radius of its length
-above-largest : (l k : ℕ) → 1 ≤ l → l ≤ 16 → ltb (largestRadius l) k ≡ unusableShell l k (N l k)
-above-largest l k p q = rw (le-ltb l 1 p, le-ltb 16 l q) (go (decLt 32 k) (decLe k (largestRadius l)))
+-- a shell is unusable exactly above the largest radius of its length, by either shape field
+above-largest : (f : Field) (l k : ℕ) → 1 ≤ l → l ≤ 16 → ltb (largestRadius f l) k ≡ unusableShell l k (fieldTotal (sizeOf f) l k)
+above-largest f l k p q = rw (le-ltb l 1 p, le-ltb 16 l q) (go (decLt 32 k) (decLe k (largestRadius f l)))
   where
-    go : Dec (32 < k) → Dec (k ≤ largestRadius l) → ltb (largestRadius l) k ≡ (ltb 32 k || (ltb mostPoints (N l k) || false))
-    go (yes h) d = rw (lt-ltb 32 k h, lt-ltb (largestRadius l) k (omega (arith, largest-to l p q)))
-    go (no h) (yes g) = rw (le-ltb 32 k (omega arith), le-ltb (largestRadius l) k g, le-ltb mostPoints (N l k) (usable-up-to l k p q g))
+    go : Dec (32 < k) → Dec (k ≤ largestRadius f l) → ltb (largestRadius f l) k ≡ (ltb 32 k || (ltb mostPoints (fieldTotal (sizeOf f) l k) || false))
+    go (yes h) d = rw (lt-ltb 32 k h, lt-ltb (largestRadius f l) k (omega (arith, largest-to f l p q)))
+    go (no h) (yes g) =
+        rw (le-ltb 32 k (omega arith), le-ltb (largestRadius f l) k g, le-ltb mostPoints (fieldTotal (sizeOf f) l k) (usable-up-to f l p q k g))
     go (no h) (no g) =
-        rw (le-ltb 32 k (omega arith), lt-ltb (largestRadius l) k (omega arith), lt-ltb mostPoints (N l k) (unusable-past l k p q (omega arith) (omega arith)))
+        rw (
+          le-ltb 32 k (omega arith),
+          lt-ltb (largestRadius f l) k (omega arith),
+          lt-ltb mostPoints (fieldTotal (sizeOf f) l k) (unusable-past f l p q k (omega arith) (omega arith)),
+        )
 
--- and so is a radius of a row
-pub radius-above-largest : (row : List ℕ) (k : ℕ) → 1 ≤ lengthOf row → lengthOf row ≤ 16 → ltb (largestRadius (lengthOf row)) k ≡ unusableRadius row k
-unfolding enumerationOf
-radius-above-largest row k p q = rw (selected-total (selectorOf row) (lengthOf row) k) (above-largest (lengthOf row) k p q)
+-- and so is a radius of a row whose shells have as many indices as that field makes
+pub radius-above-largest : (f : Field) (row : List ℕ) (k : ℕ) → 1 ≤ lengthOf row → lengthOf row ≤ 16
+    → shellTotal row k ≡ fieldTotal (sizeOf f) (lengthOf row) k → ltb (largestRadius f (lengthOf row)) k ≡ unusableRadius row k
+radius-above-largest f row k p q same = rw same (above-largest f (lengthOf row) k p q)
 
 module _ (row : List ℕ) (n : ℕ) where
   pub unused-says : radiiOf row ≤ n → not (eqb (radiusAt row n) 0) ≡ badRadius row n

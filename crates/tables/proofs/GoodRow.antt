@@ -10,8 +10,8 @@ use lib.Dec.{eqb, ltb}
 use borrow.Author.Tests.{ltb-false, leb-false, eqb-true, not-false, lt-ltb, le-ltb, lt-leb, eq-eqb}
 use Rattle.answers.specs.Checks.{anyOf, NoneOf, failsOf}
 use Rattle.answers.proofs.InOrder.{none-of}
-use Rattle.enumeration.proofs.Selected.{selected-lawful, selected-full}
-use Rattle.enumeration.specs.Enumeration.{Lawful, Full}
+use Rattle.enumeration.proofs.Selected.{selected-lawful}
+use Rattle.enumeration.specs.Enumeration.{Lawful}
 use Rattle.tables.specs.Usable.{lengthOutside, mostPoints, shellChecks, IsUsable}
 use Rattle.tables.proofs.Usable.{length-inside, passes-usable}
 use Rattle.tables.specs.Row.{byteOf, lengthOf, radiiOf, radiusAt, stepOf, placesOf, selectorOf, enumerationOf, radiiOutside, shellTotal, unusableRadius, outOfOrder, badRadius, badRadii, tailFaults, badRow, GoodRow}
@@ -59,7 +59,7 @@ row-in-range row e =
       radius-unused = λ i h g. unused row i (at i g) h;
       step-from = ltb-false (stepOf row) 1 (none .1 .1 .1 .0);
       places-from = ltb-false (placesOf row) 1 (none .1 .1 .1 .1 .0);
-      selector-to = ltb-false 1 (selectorOf row) (none .1 .1 .1 .1 .1 .0);
+      selector-to = ltb-false 2 (selectorOf row) (none .1 .1 .1 .1 .1 .0);
       zero-15 = is-zero (byteOf row 15) (none .1 .1 .1 .1 .1 .1 .0);
     }
 
@@ -99,18 +99,14 @@ module _ (row : List ℕ) (good : GoodRow row) where
         radii-good 8 (omega arith),
         le-ltb (stepOf row) 1 (good .step-from),
         le-ltb (placesOf row) 1 (good .places-from),
-        le-ltb 1 (selectorOf row) (good .selector-to),
+        le-ltb 2 (selectorOf row) (good .selector-to),
         eq-eqb (byteOf row 15) 0 (good .zero-15),
       )
 
 pub good-exactly : (row : List ℕ) → (badRow row ≡ false) ↔ GoodRow row
 good-exactly row = (row-in-range row, row-not-bad row)
 
--- the enumeration of a row is lawful, and every index below a total names a point
+-- the enumeration of a row is lawful
 pub row-lawful : (row : List ℕ) → Lawful (enumerationOf row)
 unfolding enumerationOf
 row-lawful row = selected-lawful (selectorOf row)
-
-pub row-full : (row : List ℕ) → Full (enumerationOf row)
-unfolding enumerationOf
-row-full row = selected-full (selectorOf row)

@@ -1,4 +1,5 @@
 pub mod Largest
+pub mod Lost
 pub mod Usable
 pub mod Example
 pub mod Faults

@@ -9,7 +9,8 @@ use lib.Dec.{ltb, lit<}
 use borrow.Author.Tests.{ltb-false, lt-ltb, le-ltb}
 use Rattle.answers.specs.Checks.{firstOf, Passes}
 use Rattle.answers.proofs.InOrder.{none-of, says-passes, passes-says}
-use Rattle.counts.specs.Counts.{N}
+use Rattle.counts.specs.Fields.{sizeOf, fieldTotal}
+use Rattle.counts.specs.declared.Field.{Field}
 use Rattle.tables.specs.Largest.{largestRadius}
 use Rattle.tables.specs.Usable.{lengthOutside, mostPoints, tooMany, shellChecks, IsUsable}
 use Rattle.tables.proofs.Largest.{usable-up-to, unusable-past}
@@ -21,21 +22,24 @@ past-limit n h = lt-ltb _ n (omega arith)
 within-limit : (n : ℕ) → n ≤ mostPoints → tooMany n ≡ false
 within-limit n h = le-ltb _ n (omega arith)
 
-module _ (l k : ℕ) (answer : List ℕ) where
-  pub below-says : l < 1 → 1 ∷ [] ≡ firstOf (shellChecks l k (N l k)) answer
+module _ (f : Field) (l k : ℕ) (answer : List ℕ) where
+  abbrev total : ℕ
+  total = fieldTotal (sizeOf f) l k
+
+  pub below-says : l < 1 → 1 ∷ [] ≡ firstOf (shellChecks l k total) answer
   below-says h = rw (lt-ltb l 1 h)
 
-  pub above-says : 16 < l → 1 ∷ [] ≡ firstOf (shellChecks l k (N l k)) answer
+  pub above-says : 16 < l → 1 ∷ [] ≡ firstOf (shellChecks l k total) answer
   above-says h = rw (le-ltb l 1 (omega arith), lt-ltb 16 l h)
 
-  pub radius-says : 1 ≤ l → l ≤ 16 → 32 < k → 2 ∷ [] ≡ firstOf (shellChecks l k (N l k)) answer
+  pub radius-says : 1 ≤ l → l ≤ 16 → 32 < k → 2 ∷ [] ≡ firstOf (shellChecks l k total) answer
   radius-says p q h = rw (le-ltb l 1 p, le-ltb 16 l q, lt-ltb 32 k h)
 
-  pub past-says : 1 ≤ l → l ≤ 16 → k ≤ 32 → largestRadius l < k → 3 ∷ [] ≡ firstOf (shellChecks l k (N l k)) answer
-  past-says p q r h = rw (le-ltb l 1 p, le-ltb 16 l q, le-ltb 32 k r, past-limit (N l k) (unusable-past l k p q r h))
+  pub past-says : 1 ≤ l → l ≤ 16 → k ≤ 32 → largestRadius f l < k → 3 ∷ [] ≡ firstOf (shellChecks l k total) answer
+  past-says p q r h = rw (le-ltb l 1 p, le-ltb 16 l q, le-ltb 32 k r, past-limit total (unusable-past f l p q k r h))
 
-  pub usable-says : 1 ≤ l → l ≤ 16 → k ≤ 32 → k ≤ largestRadius l → answer ≡ firstOf (shellChecks l k (N l k)) answer
-  usable-says p q r h = rw (le-ltb l 1 p, le-ltb 16 l q, le-ltb 32 k r, within-limit (N l k) (usable-up-to l k p q h))
+  pub usable-says : 1 ≤ l → l ≤ 16 → k ≤ 32 → k ≤ largestRadius f l → answer ≡ firstOf (shellChecks l k total) answer
+  usable-says p q r h = rw (le-ltb l 1 p, le-ltb 16 l q, le-ltb 32 k r, within-limit total (usable-up-to f l p q k h))
 
 -- a length that is not refused
 pub length-inside : (l : ℕ) → lengthOutside l ≡ false → (1 ≤ l) × (l ≤ 16)

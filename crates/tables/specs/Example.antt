@@ -1,9 +1,10 @@
 -- Two rows, read by the definitions: the row of the whole case (docs/RULES.md, "Worked cases"), and one of the
--- magnitude enumeration in which every byte differs from its neighbours; the faults of each; and tables of those rows.
+-- magnitude enumeration in which every byte differs from its neighbours; the faults of each, and those that go by the
+-- row's own total; and tables of those rows.
 -- proofs/Example.antt computes every line.
 use Prim.Native.Nat.{ℕ, zero, suc}
 use mathlib.Core.Path.{_≡_}
-use mathlib.Core.List.{List, [], _∷_, _++_}
+use mathlib.Core.List.{List, [], _∷_, _++_, map}
 use mathlib.Core.Bool.{true, false}
 use lib.ListN.{take, drop}
 use Rattle.answers.specs.Checks.{firstOf}
@@ -26,6 +27,14 @@ twoRows = wholeCase ++ fullRow
 -- one row of so many places, high byte and low byte
 abbrev pub ofPlaces : ℕ → ℕ → List ℕ
 ofPlaces high low = take 12 wholeCase ++ high ∷ low ∷ 0 ∷ 0 ∷ []
+
+-- the row of the whole case with this selector
+abbrev pub ofSelector : ℕ → List ℕ
+ofSelector v = take 14 wholeCase ++ v ∷ 0 ∷ []
+
+-- a row of this length with the radii 0 and k, and this selector
+abbrev pub ofShell : ℕ → ℕ → ℕ → List ℕ
+ofShell v l k = l ∷ 2 ∷ 0 ∷ k ∷ drop 4 (ofSelector v)
 
 -- a row again and again
 abbrev pub again : ℕ → List ℕ → List ℕ
@@ -62,7 +71,7 @@ pub record Example : Type 0 where
   pub one-radius : badRow (3 ∷ 1 ∷ 0 ∷ 0 ∷ drop 4 wholeCase) ≡ false
   -- each other fault by itself: length 0 and 17; no radii, and nine; a first radius that is 1; two that are equal,
   -- the last two of eight among them; one above 32; one past the largest of length 16, which is good; one beyond
-  -- the number of radii; a byte 14 or 15 that is not 0
+  -- the number of radii
   pub no-length : badRow (0 ∷ drop 1 wholeCase) ≡ true
   pub length-17 : badRow (17 ∷ drop 1 wholeCase) ≡ true
   pub no-radii : badRow (3 ∷ 0 ∷ 0 ∷ 0 ∷ drop 4 wholeCase) ≡ true
@@ -74,11 +83,17 @@ pub record Example : Type 0 where
   pub past-largest : badRow (16 ∷ 2 ∷ 0 ∷ 13 ∷ drop 4 wholeCase) ≡ true
   pub at-largest : badRow (16 ∷ 2 ∷ 0 ∷ 12 ∷ drop 4 wholeCase) ≡ false
   pub unused-radius : badRow (take 4 wholeCase ++ 2 ∷ drop 5 wholeCase) ≡ true
-  -- byte 14 is 0 or 1, and byte 15 is 0 with either
-  pub byte-14-of-1 : badRow (take 14 wholeCase ++ 1 ∷ 0 ∷ []) ≡ false
-  pub byte-14-of-2 : badRow (take 14 wholeCase ++ 2 ∷ 0 ∷ []) ≡ true
+  -- byte 14 is 0, 1 or 2, and byte 15 is 0 with each
+  pub byte-14-of-1 : badRow (ofSelector 1) ≡ false
+  pub byte-14-of-2 : badRow (ofSelector 2) ≡ false
+  pub byte-14-of-3 : badRow (ofSelector 3) ≡ true
   pub byte-15 : badRow (take 15 wholeCase ++ 1 ∷ []) ≡ true
   pub byte-15-behind-1 : badRow (take 15 fullRow ++ 1 ∷ []) ≡ true
+  -- the rows that a field of bits makes bad, and the radius below each, which it leaves good
+  pub lost-9-27 : map badRow (ofShell 0 9 27 ∷ ofShell 1 9 27 ∷ ofShell 2 9 27 ∷ ofShell 2 9 26 ∷ []) ≡ false ∷ false ∷ true ∷ false ∷ []
+  pub lost-10-22 : map badRow (ofShell 0 10 22 ∷ ofShell 1 10 22 ∷ ofShell 2 10 22 ∷ ofShell 2 10 21 ∷ []) ≡ false ∷ false ∷ true ∷ false ∷ []
+  pub lost-13-15 : map badRow (ofShell 0 13 15 ∷ ofShell 1 13 15 ∷ ofShell 2 13 15 ∷ ofShell 2 13 14 ∷ []) ≡ false ∷ false ∷ true ∷ false ∷ []
+  pub lost-16-12 : map badRow (ofShell 0 16 12 ∷ ofShell 1 16 12 ∷ ofShell 2 16 12 ∷ ofShell 2 16 11 ∷ []) ≡ false ∷ false ∷ true ∷ false ∷ []
   -- a shell of 2^32 points is within the limit, and one of a point more is not; no shell has either number of points
   pub most-points : tooMany 4294967296 ≡ false
   pub too-many : tooMany 4294967297 ≡ true

@@ -64,6 +64,10 @@ radiiOutside n = anyOf (ltb n 1 ∷ ltb 8 n ∷ [])
 abbrev pub unusableRadius : List ℕ → ℕ → Bool
 unusableRadius row k = unusableShell (lengthOf row) k (shellTotal row k)
 
+-- above this radius, and no other, each radius is unusable
+abbrev pub IsLargest : List ℕ → ℕ → Type 0
+IsLargest row most = (k : ℕ) → ltb most k ≡ unusableRadius row k
+
 -- first 0, each larger than the one before
 abbrev pub outOfOrder : List ℕ → ℕ → Bool
 outOfOrder row zero = not (eqb (radiusAt row 0) 0)
@@ -111,7 +115,7 @@ pub record GoodRow (row : List ℕ) : Type 0 where
   pub radius-unused : (n : ℕ) → radiiOf row ≤ n → n < 8 → radiusAt row n ≡ 0
   pub step-from : 1 ≤ stepOf row
   pub places-from : 1 ≤ placesOf row
-  pub selector-to : selectorOf row ≤ 1
+  pub selector-to : selectorOf row ≤ 2
   pub zero-15 : byteOf row 15 ≡ 0
 
 -- the bytes of a good row, as a function is lent them

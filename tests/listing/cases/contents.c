@@ -12,6 +12,8 @@ enum { WIDTHS = 33 /* 0 to 32 */, LEAST_BYTES = 2 * 65536 + 2 };
 enum thing {
     A_10,
     A_14,
+    A_15,
+    A_15_PAST_END,
     A_10_BELOW_8,
     A_10_AND_0,
     HELD_AND_REPEATED,
@@ -29,6 +31,7 @@ enum thing {
     NO_ROW,
     OTHER_ROW_AND_10,
     OTHER_ROW_AND_14,
+    OTHER_ROW_AND_15,
     PART_OF_MISSING,
     SOUND_LAST,
     MENDED_FIRST,
@@ -40,14 +43,17 @@ enum thing {
     RADIUS_32_MENDED,
     TWO_DIGITS,
     TWO_DIGITS_NEGATIVE,
-    PRODUCT_SHOWN,
+    PRODUCT_SHOWN, /* this one and the next two in the order of the selectors */
     MAGNITUDE_SHOWN,
+    PRODUCT_PRODUCT_SHOWN,
     THINGS
 };
 
 static const char *const names[THINGS] = {
     [A_10] = "places with reason 10",
     [A_14] = "places with reason 14",
+    [A_15] = "places with reason 15 and a codeword below the total",
+    [A_15_PAST_END] = "places with reason 15 and a codeword past the end",
     [A_10_BELOW_8] = "places with reason 10 and a radius number below 8",
     [A_10_AND_0] = "places with reason 10, a radius number below 8 and codeword 0",
     [HELD_AND_REPEATED] = "places that are held and whose record came again",
@@ -65,9 +71,10 @@ static const char *const names[THINGS] = {
     [NO_ROW] = "records of a row that is not in the table",
     [OTHER_ROW_AND_10] = "records of another row whose radius number is not in the row of their place",
     [OTHER_ROW_AND_14] = "records of another row whose codeword is 2^b or more in the row of their place",
+    [OTHER_ROW_AND_15] = "records of another row whose codeword names no point in the row of their place",
     [PART_OF_MISSING] = "short last parts with the number of a place that is missing",
-    [SOUND_LAST] = "places with codeword N - 1, N above 1",
-    [MENDED_FIRST] = "places with codeword N that are mended",
+    [SOUND_LAST] = "places with the last codeword below a total above 1",
+    [MENDED_FIRST] = "places with the first codeword past the end that are mended",
     [MENDED_LAST] = "places with codeword 2^b - 1 that are mended",
     [MENDED_FAR] = "mended places with a distance of 2^24 or more",
     [FIRST_PAST_WIDTH] = "places with codeword 2^b",
@@ -76,8 +83,9 @@ static const char *const names[THINGS] = {
     [RADIUS_32_MENDED] = "mended places of radius 32",
     [TWO_DIGITS] = "coordinates above 9",
     [TWO_DIGITS_NEGATIVE] = "coordinates below -9",
-    [PRODUCT_SHOWN] = "places of selector 0 with a point that would be another one with selector 1",
-    [MAGNITUDE_SHOWN] = "places of selector 1 with a point that would be another one with selector 0",
+    [PRODUCT_SHOWN] = "places of selector 0 with a point that has another index with each other selector",
+    [MAGNITUDE_SHOWN] = "places of selector 1 with a point that has another index with each other selector",
+    [PRODUCT_PRODUCT_SHOWN] = "places of selector 2 with a point that has another index with each other selector",
 };
 
 static const enum thing other_row_at[READINGS] = {
@@ -92,7 +100,7 @@ static struct {
     uint64_t things[THINGS];
     uint64_t answers[READINGS];
     uint64_t differing[RECORD_SIZE];               /* places contested by records that differ in that byte alone */
-    uint64_t of_selector[SELECTORS][READINGS];
+    uint64_t of_selector[READINGS][SELECTORS];
     uint64_t of_length[READINGS][MOST_LENGTH + 1]; /* sound ones and mended ones */
     uint64_t of_width[READINGS][WIDTHS];
 } counted;
@@ -114,12 +122,17 @@ static void count_if(int is_there, enum thing thing)
     counted.things[thing] += is_there != 0;
 }
 
-static void tell_sound(const struct table *table, uint64_t place, const uint8_t *record)
+/* What a record would show in its place alone, as one of the place's row. */
+static struct reading reading_alone(const struct table *table, uint64_t place, const uint8_t *record)
 {
     uint8_t cell[CELL_SIZE] = {STATE_HELD};
-    for (int i = 0; i < RECORD_SIZE; i++)
-        cell[AT_RECORD + i] = record[i];
-    if (read_cell(table, place, cell).word != SOUND)
+    write_record(cell + AT_RECORD, place, row_of(table, place), record[AT_RADIUS_NUMBER], codeword_of(record));
+    return read_cell(table, place, cell);
+}
+
+static void tell_sound(const struct table *table, uint64_t place, const uint8_t *record)
+{
+    if (reading_alone(table, place, record).word != SOUND)
         return;
     told[place].has_two_sound |= told[place].has_sound && memcmp(told[place].sound, record, RECORD_SIZE) != 0;
     for (int i = 0; i < RECORD_SIZE && !told[place].has_sound; i++)
@@ -127,20 +140,11 @@ static void tell_sound(const struct table *table, uint64_t place, const uint8_t 
     told[place].has_sound = 1;
 }
 
-/* 2^b for the shell of a record in a row, or 0 where its radius number is not in the row. */
-static uint64_t power_in(const uint8_t *row, const uint8_t *record)
-{
-    const uint64_t number = record[AT_RADIUS_NUMBER];
-    if (number >= row[AT_NUMBER_OF_RADII])
-        return 0;
-    return least_power_from(points_of(shell_of(row, number)));
-}
-
 /* A record of another row than that of its place. */
 static void tell_foreign(const struct table *table, uint64_t place, const uint8_t *record)
 {
     const uint64_t right = row_of(table, place), row = record[AT_ROW], rows = table->size / ROW_SIZE;
-    const uint64_t power = power_in(row_at(table, place), record);
+    const uint64_t reason = reading_alone(table, place, record).reason;
     const uint8_t *first = gathering.came[place].first;
     const int is_same = memcmp(first + AT_RADIUS_NUMBER, record + AT_RADIUS_NUMBER, RECORD_SIZE - AT_RADIUS_NUMBER) == 0;
     told[place].has_other_row = 1;
@@ -148,8 +152,9 @@ static void tell_foreign(const struct table *table, uint64_t place, const uint8_
     count_if(row + 1 == right, ROW_BEFORE);
     count_if(row == right + 1 && row < rows, ROW_BEHIND);
     count_if(row >= rows, NO_ROW);
-    count_if(power == 0, OTHER_ROW_AND_10);
-    count_if(power > 0 && codeword_of(record) >= power, OTHER_ROW_AND_14);
+    count_if(reason == 10, OTHER_ROW_AND_10);
+    count_if(reason == 14, OTHER_ROW_AND_14);
+    count_if(reason == 15, OTHER_ROW_AND_15);
 }
 
 /* One record of the capture, when all is gathered. */
@@ -189,18 +194,18 @@ static uint64_t width(uint64_t n)
 /* A place that shows a point. */
 static void count_shown(struct reading reading, uint64_t codeword)
 {
-    const uint64_t n = points_of(reading.shell), b = width(n);
+    const uint64_t total = total_of(reading.shell), b = width(total);
     const int is_mended = reading.word == MENDED;
     int32_t point[MOST_LENGTH];
     point_shown(reading, point);
     counted.of_length[reading.word][reading.shell.length]++;
     counted.of_width[reading.word][b]++;
     count_if(reading.shell.radius == MOST_RADIUS, is_mended ? RADIUS_32_MENDED : RADIUS_32_SOUND);
-    count_if(codeword == n - 1 && n > 1, SOUND_LAST);
-    count_if(codeword == n, MENDED_FIRST);
+    count_if(codeword == total - 1 && total > 1, SOUND_LAST);
+    count_if(codeword == total, MENDED_FIRST);
     count_if(is_mended && codeword == ((uint64_t)1 << b) - 1, MENDED_LAST);
     count_if(reading.distance >= 1 << 24, MENDED_FAR);
-    count_if(is_index_telling(reading.shell, point), reading.shell.selector == MAGNITUDE ? MAGNITUDE_SHOWN : PRODUCT_SHOWN);
+    count_if(is_index_telling(reading.shell, point), (enum thing)(PRODUCT_SHOWN + reading.shell.selector));
     for (uint64_t i = 0; i < reading.shell.length; i++) {
         count_if(point[i] > 9, TWO_DIGITS);
         count_if(point[i] < -9, TWO_DIGITS_NEGATIVE);
@@ -210,9 +215,12 @@ static void count_shown(struct reading reading, uint64_t codeword)
 /* A place that is unreadable. */
 static void count_unreadable(const uint8_t *row, const uint8_t *record, uint64_t reason)
 {
-    const uint64_t number = record[AT_RADIUS_NUMBER], codeword = codeword_of(record), power = power_in(row, record);
+    const uint64_t number = record[AT_RADIUS_NUMBER], codeword = codeword_of(record);
+    const uint64_t total = reason == 10 ? 0 : total_of(shell_of(row, number)), power = least_power_from(total);
     count_if(reason == 10, A_10);
     count_if(reason == 14, A_14);
+    count_if(reason == 15 && codeword < total, A_15);
+    count_if(reason == 15 && codeword >= total, A_15_PAST_END);
     count_if(reason == 10 && number < MOST_RADII, A_10_BELOW_8);
     count_if(reason == 10 && number < MOST_RADII && codeword == 0, A_10_AND_0);
     count_if(reason == 14 && codeword == power, FIRST_PAST_WIDTH);
@@ -224,7 +232,7 @@ static void count_place(const struct table *table, uint64_t place)
     const struct reading reading = reading_of(table, &gathering, place);
     const uint8_t *first = gathering.came[place].first;
     counted.answers[reading.word]++;
-    counted.of_selector[row_at(table, place)[AT_SELECTOR]][reading.word]++;
+    counted.of_selector[reading.word][row_at(table, place)[AT_SELECTOR]]++;
     count_if(reading.word != CONTESTED && gathering.came[place].claims > 1, HELD_AND_REPEATED);
     count_if(told[place].has_other_row, other_row_at[reading.word]);
     if (reading.word == CONTESTED)
@@ -250,15 +258,16 @@ static void count_all(const struct table *table, const struct capture *capture)
         count_if(gathering.came[two_bytes(part)].claims == 0, PART_OF_MISSING);
 }
 
-/* A mended place needs an N that is no power of two: lengths from 2 on and widths from 3 on have one. */
+/* A mended place needs a total that is no power of two: lengths from 2 on and widths from 3 on have one. */
 static void require_all(void)
 {
+    static const char *const places[SELECTORS] = {"full page, places of selector 0 that are", "full page, places of selector 1 that are",
+                                                  "full page, places of selector 2 that are"};
     for (int thing = 0; thing < THINGS; thing++)
         require(counted.things[thing], 1, "full page,", names[thing]);
-    for (uint64_t word = 0; word < READINGS; word++) {
-        require_number(counted.of_selector[PRODUCT][word], 1, "full page, places of selector 0 with answer", word);
-        require_number(counted.of_selector[MAGNITUDE][word], 1, "full page, places of selector 1 with answer", word);
-    }
+    for (uint64_t selector = 0; selector < SELECTORS; selector++)
+        for (int word = 0; word < READINGS; word++)
+            require(counted.of_selector[word][selector], 1, places[selector], reading_words[word]);
     for (uint64_t i = AT_RADIUS_NUMBER; i < RECORD_SIZE; i++)
         require_number(counted.differing[i], 1, "full page, places contested by records that differ in one byte alone, byte", i);
     for (uint64_t length = 1; length <= MOST_LENGTH; length++) {

@@ -32,10 +32,10 @@ struct table full_table(void)
         const int is_even = number < MOST_LENGTH;
         row[AT_LENGTH] = (uint8_t)(1 + (is_even ? 5 : 3) * number % MOST_LENGTH);
         row[AT_NUMBER_OF_RADII] = (uint8_t)(is_even ? MOST_RADII : MOST_RADII - number % MOST_RADII);
-        (is_even ? spread_evenly : spread_by_chance)(row, largest_radius(row[AT_LENGTH]));
+        row[AT_SELECTOR] = (uint8_t)((row[AT_LENGTH] + !is_even) % SELECTORS);
+        (is_even ? spread_evenly : spread_by_chance)(row, largest_radius(row[AT_LENGTH], row[AT_SELECTOR]));
         set_two_bytes(row + AT_STEP, number % 4 == 0 ? steps[number / 4 % ENTRIES(steps)] : 1 + chance_below(65535));
         set_two_bytes(row + AT_PLACES, places);
-        row[AT_SELECTOR] = (uint8_t)((number + number / MOST_LENGTH) % SELECTORS);
         places = number % 2 == 0 ? 256 - places : 64 + chance_below(128);
     }
     own_figure("faults of the full table", judge(table.bytes, table.size).faults, 0);

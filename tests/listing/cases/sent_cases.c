@@ -44,6 +44,33 @@ static const char selectors_text[] = "0 sound 0 1 0 -1\n"
                                      "3 sound 0 2 -2\n"
                                      "tally 4 0 0 0 0 0\n";
 
+/* (-2, 0) and (0, 2) in three rows that differ in the selector alone, and (1, -3, 0) in a row of selector 2. With the
+   selectors 2, 0 and 1 the point (-4,0) has the indices 19, 15 and 15, and (0,4) has 16, 12 and 0. */
+static const uint8_t three_table[] = {
+    2, 2, 0, 4, 0, 0, 0, 0, 0, 0, 0, 77, 0, 2, 2, 0, /* places 0 and 1 */
+    2, 2, 0, 4, 0, 0, 0, 0, 0, 0, 0, 77, 0, 2, 0, 0, /* places 2 and 3 */
+    2, 2, 0, 4, 0, 0, 0, 0, 0, 0, 0, 77, 0, 2, 1, 0, /* places 4 and 5 */
+    3, 2, 0, 4, 0, 0, 0, 0, 0, 0, 1, 0,  0, 1, 2, 0, /* place 6 */
+};
+static const uint8_t three_run[] = {
+    F32(0xc0000000), F32(0), F32(0), F32(0x40000000),  /* row 0 */
+    F32(0xc0000000), F32(0), F32(0), F32(0x40000000),  /* row 1 */
+    F32(0xc0000000), F32(0), F32(0), F32(0x40000000),  /* row 2 */
+    F32(0x3f800000), F32(0xc0400000), F32(0x80000000), /* row 3 */
+};
+static const uint8_t three_records[] = {
+    RECORD(0, 0, 1, 19), RECORD(1, 0, 1, 16), RECORD(2, 1, 1, 15), RECORD(3, 1, 1, 12),
+    RECORD(4, 2, 1, 15), RECORD(5, 2, 1, 0),  RECORD(6, 3, 1, 65),
+};
+static const char three_text[] = "0 sound 0 -4 0\n"
+                                 "1 sound 0 0 4\n"
+                                 "2 sound 0 -4 0\n"
+                                 "3 sound 0 0 4\n"
+                                 "4 sound 0 -4 0\n"
+                                 "5 sound 0 0 4\n"
+                                 "6 sound 0 1 -3 0\n"
+                                 "tally 7 0 0 0 0 0\n";
+
 /* An infinity at place 1, and in place 2 a NaN and 32,768. */
 static const uint8_t unusable_run[] = {
     F32(0x3fc00000), F32(0), F32(0xbf400000), F32(0), F32(0), F32(0x7f800000), F32(0x7fc00000), F32(0x47000000),
@@ -135,6 +162,7 @@ static const char ties_text[] = "0 sound 0 0 0 0\n"
 static const struct sent_case cases[] = {
     {{"sent_rows", BYTES(rows_table), BYTES(rows_records), rows_text}, BYTES(rows_run), NULL},
     {{"sent_selectors", BYTES(selectors_table), BYTES(selectors_records), selectors_text}, BYTES(selectors_run), NULL},
+    {{"sent_three_selectors", BYTES(three_table), BYTES(three_records), three_text}, BYTES(three_run), NULL},
     {{"sent_halves", BYTES(halves_table), BYTES(halves_records), halves_text}, BYTES(halves_run), NULL},
     {{"sent_ties", BYTES(ties_table), BYTES(ties_records), ties_text}, BYTES(ties_run), NULL},
     {{"sent_not", BYTES(rows_table), {0}, rows_missing}, BYTES(unusable_run), "refused 11 1 2\n"},

@@ -12,7 +12,7 @@ enum { SEED = 2026 };
 static const enum kind wanted[] = {
     TURNED_HALF_DOWN,   TURNED_HALF_UP, TURNED_BELOW_HALF, TURNED_ABOVE_HALF, TIE_OF_RADII, ONE_BELOW_TIE,       ONE_ABOVE_TIE,
     SUM_PAST_2_24,      MORE_UNITS,     TIE_OF_EQUAL,      TIE_OF_DIFFERENT,  SINGLY_OFF,   NEGATIVE_ZERO_AMONG, SUBNORMAL,
-    CODEWORD_PAST_2_24, STEP_1,         STEP_65535,        PRODUCT_TOLD,      MAGNITUDE_TOLD,
+    CODEWORD_PAST_2_24, STEP_1,         STEP_65535,        PRODUCT_TOLD,      MAGNITUDE_TOLD, PRODUCT_PRODUCT_TOLD,
 };
 
 /* The first 16 rows of the full table, which have every length and 8 radii, with few places. */

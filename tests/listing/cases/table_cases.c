@@ -54,11 +54,12 @@ static const struct {
     {"bad_first_radius", 3, AT_RADII, 1, FIRST_RADIUS_NOT_0},
     {"bad_equal_radii", 2, AT_RADII + 1, 32, RADIUS_NOT_LARGER},
     {"bad_radius_33", 2, AT_RADII + 2, 33, RADIUS_ABOVE_32},
+    {"bad_total", 1, AT_SELECTOR, PRODUCT_PRODUCT, RADIUS_NOT_USABLE},
     {"bad_unusable", 1, AT_RADII + 1, 13, RADIUS_NOT_USABLE},
     {"bad_beyond", 3, AT_RADII + 7, 12, BEYOND_NOT_0},
     {"bad_step", 3, AT_STEP + 1, 0, NO_STEP},
     {"bad_places", 3, AT_PLACES + 1, 0, NO_PLACES},
-    {"bad_byte_14", 3, AT_SELECTOR, 2, BAD_SELECTOR},
+    {"bad_byte_14", 3, AT_SELECTOR, 3, BAD_SELECTOR},
 };
 
 static uint32_t faults_made; /* the bit 1 << fault for each */

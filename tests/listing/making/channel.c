@@ -1,6 +1,7 @@
 /* The channel of the case `full_page`: it repeats what it carries, changes some of it, in any field, and hands it over
    in another order, among records that are no part of the page. */
 
+#include "../../second/draws/page_draws.h"
 #include "../listing.h"
 
 void put(struct capture *to, const uint8_t *bytes, uint64_t size)
@@ -20,11 +21,14 @@ static void set_codeword(uint8_t *record, uint64_t codeword)
     write_record(record, two_bytes(record + AT_PLACE), record[AT_ROW], record[AT_RADIUS_NUMBER], codeword % TWO_TO_32);
 }
 
-/* Codewords beside which the answer changes, and one that is mended where there is such. */
+/* Codewords beside which the answer changes, one that is mended, and one of an empty shape, where there are such. */
 static uint64_t codeword_to_judge(struct shell shell)
 {
-    const uint64_t n = points_of(shell), power = least_power_from(n);
-    const uint64_t mended = n < power ? n + chance_below(power - n) : n, choices[] = {0, n - 1, n, power - 1, power, TWO_TO_32 - 1};
+    const uint64_t total = total_of(shell), power = least_power_from(total);
+    const uint64_t choices[] = {0, total - 1, total, power - 1, power, TWO_TO_32 - 1};
+    const uint64_t mended = is_any_mended(shell) ? mended_codeword(shell) : total;
+    if (has_empty_shapes(shell) && chance_below(3) == 0)
+        return empty_codeword(shell);
     return chance_below(3) ? mended : choices[chance_below(ENTRIES(choices))];
 }
 
@@ -32,7 +36,7 @@ static uint64_t codeword_to_judge(struct shell shell)
    the highest of the codeword's b bits, all of the codeword, or any two bits. */
 static void change_once(uint8_t *record, struct shell shell)
 {
-    const uint64_t highest = least_power_from(points_of(shell)) / 2, choice = chance_below(10);
+    const uint64_t highest = least_power_from(total_of(shell)) / 2, choice = chance_below(10);
     if (choice == 0)
         flip_one_of(record + AT_PLACE, 16);
     else if (choice == 1)

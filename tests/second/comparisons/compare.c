@@ -101,6 +101,7 @@ void require_refusals(void)
     }
     require_number(compared.of_index[5], LEAST, "calls of index refused with", 5);
     require_number(compared.of_point[6], LEAST, "calls of point refused with", 6);
+    require_number(compared.of_point[15], LEAST, "calls of point refused with", 15);
 }
 
 /* Both calls with a pairing table: 0 and the number of its places, or 7 and the row. */

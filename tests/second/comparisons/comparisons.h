@@ -72,6 +72,7 @@ void compare_tables(void);
 void compare_vectors(void);
 void compare_checks(void);
 void compare_pages(void);
+void compare_empty_shapes(void);
 void compare_takes(void);
 void compare_runs(void);
 void compare_places(void);

@@ -1,12 +1,13 @@
-/* The first and the last point of every range of every usable shell, and so of every shell, in both enumerations;
-   docs/RULES.md, "The product index" and "The magnitude index", in the orders that listing.c explains. These points are
-   written down directly. In the magnitude enumeration a range has the points with one value of the first coordinate. */
+/* The first and the last point of every range of every usable shell, and so of every shell, in each enumeration;
+   docs/RULES.md, "The product index", "The magnitude index" and "The product-product index", in the orders that
+   listing.c explains. These points are written down directly. In the magnitude enumeration a range has the points with
+   one value of the first coordinate. */
 
 #include "comparisons.h"
 
 #include <stdio.h>
 
-static uint64_t shells, range_ends[SELECTORS];
+static uint64_t shells, range_ends[SELECTORS], empty_ends;
 
 /* s nonzero coordinates as late as can be, the magnitudes 1 but for the last, all positive. */
 static void first_of_range(struct shell shell, uint64_t s, int32_t *point)
@@ -39,15 +40,31 @@ static uint64_t compare_range(struct shell shell, uint64_t start, uint64_t size,
     return start + size;
 }
 
-/* The ranges from s = m down to 1: the first begins at 0, and the last ends at N. */
+/* The first and the last index without a point, of the first pattern of a range and of the last one. */
+static void compare_empty(struct shell shell, uint64_t s)
+{
+    const struct range range = range_of(shell, s);
+    const uint64_t points = range.shapes << s, all = range.field << s, last = range.start + (range.patterns - 1) * all;
+    const uint64_t empty[] = {range.start + points, range.start + all - 1, last + points, last + all - 1};
+    for (uint64_t i = 0; i < ENTRIES(empty); i++)
+        expect_point_refused(shell, empty[i], shell.length, 15);
+    empty_ends += ENTRIES(empty);
+}
+
+/* The ranges from s = m down to 1: the first begins at 0, and the last ends at the total. The last point of a range has
+   the empty shapes of its pattern behind it. */
 static uint64_t compare_product(struct shell shell)
 {
     uint64_t start = 0;
     for (uint64_t s = most_nonzero(shell); s > 0; s--) {
         int32_t first[MOST_LENGTH], last[MOST_LENGTH];
+        const struct range range = range_of(shell, s);
+        const uint64_t empty = (range.field - range.shapes) << s;
         first_of_range(shell, s, first);
         last_of_range(shell, s, last);
-        start = compare_range(shell, start, range_size(shell, s), first, last);
+        start = compare_range(shell, start, range_size(shell, s) - empty, first, last) + empty;
+        if (empty > 0)
+            compare_empty(shell, s);
     }
     return start;
 }
@@ -81,8 +98,8 @@ static void compare_ranges(struct shell shell)
     const int32_t zero[MOST_LENGTH] = {0};
     if (shell.radius == 0)
         compare_both(shell, zero, 0);
-    else if ((shell.selector == MAGNITUDE ? compare_magnitude : compare_product)(shell) != points_of(shell))
-        own_error("its ranges do not add up to N", shell);
+    else if ((shell.selector == MAGNITUDE ? compare_magnitude : compare_product)(shell) != total_of(shell))
+        own_error("its ranges do not add up to the total", shell);
 }
 
 static void compare_count(struct shell shell)
@@ -98,5 +115,7 @@ void compare_ends(void)
     for_each_shell(compare_count);
     own_figure("usable shells", shells, 407);
     for_each_numbering(compare_ranges);
-    printf("ends: %lu usable shells, %lu and %lu ends of ranges\n", shells, range_ends[PRODUCT], range_ends[MAGNITUDE]);
+    printf("ends: %lu usable shells, %lu, %lu and %lu ends of ranges, ", shells, range_ends[PRODUCT], range_ends[MAGNITUDE],
+           range_ends[PRODUCT_PRODUCT]);
+    printf("%lu ends of what names no point\n", empty_ends);
 }

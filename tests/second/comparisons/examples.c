@@ -1,5 +1,5 @@
-/* The points and counts that docs/RULES.md gives, under "Points and counts" and "Worked cases". They also hold the
-   program's own ranking to that page. */
+/* The points and counts that docs/RULES.md gives, under "Points and counts" and "Worked cases", and more of selector 2.
+   They also hold the program's own ranking to that page. */
 
 #include "comparisons.h"
 
@@ -31,6 +31,16 @@ static const struct {
     {{4, 5, MAGNITUDE}, {-1, 0, 3, -1}, 179},
     {{4, 5, MAGNITUDE}, {-3, 0, 1, -1}, 331},
     {{4, 0, MAGNITUDE}, {0, 0, 0, 0}, 0},
+    {{3, 2, PRODUCT_PRODUCT}, {1, 0, -1}, 5},
+    {{2, 4, PRODUCT_PRODUCT}, {1, 3}, 0},
+    {{2, 4, PRODUCT_PRODUCT}, {-3, -1}, 11},
+    {{2, 4, PRODUCT_PRODUCT}, {0, 4}, 16},
+    {{2, 4, PRODUCT_PRODUCT}, {-4, 0}, 19},
+    {{3, 4, PRODUCT_PRODUCT}, {2, -1, 1}, 18},
+    {{3, 4, PRODUCT_PRODUCT}, {0, 1, -3}, 33},
+    {{3, 4, PRODUCT_PRODUCT}, {1, -3, 0}, 65},
+    {{3, 4, PRODUCT_PRODUCT}, {0, 0, -4}, 81},
+    {{4, 0, PRODUCT_PRODUCT}, {0, 0, 0, 0}, 0},
 };
 
 static const struct {
@@ -47,11 +57,47 @@ static const struct {
     {{3, 33, PRODUCT}, REFUSED + 2},
 };
 
-/* Indices of length 3 and radius 2 that are past the end in both enumerations, and their distances. */
+/* Indices of length 3 and radius 2 that are past the end in each enumeration, and their distances. */
 static const struct {
     uint64_t index;
     uint64_t distance;
 } past_end[] = {{18, 0}, {20, 2}};
+
+/* Totals of the product-product enumeration, up to the largest of each length from 8 on; the last four are above 2^32,
+   though N is not. */
+static const struct {
+    uint64_t length;
+    uint64_t radius;
+    uint64_t total;
+} totals[] = {
+    {4, 0, 1},
+    {1, 5, 2},
+    {3, 2, 18},
+    {2, 4, 20},
+    {3, 4, 86},
+    {8, 32, 2685373968},
+    {9, 26, 3916648978},
+    {10, 21, 3749500564},
+    {11, 18, 3743662998},
+    {12, 16, 3752419480},
+    {13, 14, 2536205210},
+    {14, 13, 2359858908},
+    {15, 12, 2383620190},
+    {16, 11, 1482612256},
+    {9, 27, 5476930066},
+    {10, 22, 4909225620},
+    {13, 15, 4813581210},
+    {16, 12, 4953210400},
+};
+
+static void compare_totals(void)
+{
+    for (uint64_t i = 0; i < ENTRIES(totals); i++) {
+        const struct shell shell = {totals[i].length, totals[i].radius, PRODUCT_PRODUCT};
+        own_figure("total of an example", total_of(shell), totals[i].total);
+        expect_point_refused(shell, totals[i].total, shell.length, totals[i].total <= TWO_TO_32 ? 6 : 3);
+    }
+}
 
 void compare_examples(void)
 {
@@ -69,5 +115,7 @@ void compare_examples(void)
             own_figure("distance of an example", distance_of(shell, past_end[i].index), past_end[i].distance);
             expect_point_refused(shell, past_end[i].index, 3, 6);
         }
-    printf("examples: %lu points, %lu counts, %lu distances\n", ENTRIES(points), ENTRIES(counts), ENTRIES(past_end));
+    compare_totals();
+    printf("examples: %lu points, %lu counts, %lu distances, %lu totals\n", ENTRIES(points), ENTRIES(counts), ENTRIES(past_end),
+           ENTRIES(totals));
 }

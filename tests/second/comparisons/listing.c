@@ -1,5 +1,6 @@
-/* Every point of the small shells, made one after the other in the order of docs/RULES.md, "The product index", and
-   then in that of "The magnitude index", and numbered by counting. No formula for a count is used here.
+/* Every point of the small shells, made one after the other in the order of docs/RULES.md, "The product index", in that
+   of "The magnitude index" and in that of "The product-product index", and numbered by counting. No formula for a count
+   is used here.
 
    The order of the product enumeration, read from that page:
    - Ranges run from s = m down to 1, so the points with the most nonzero coordinates come first.
@@ -17,14 +18,18 @@
 
    In the magnitude enumeration the values of a coordinate run 0, 1, -1, 2, -2 and so on, the first coordinate slowest.
    Length 3, radius 2, from 0: (0,0,2) (0,0,-2) (0,1,1) (0,1,-1) (0,-1,1) .. (0,-2,0) (1,0,1) (1,0,-1) (1,1,0) ..
-   (-2,0,0). */
+   (-2,0,0).
+
+   In the product-product enumeration the order is that of the product enumeration. But once the shapes of a pattern are
+   through, numbers are passed over until the shapes, empty ones included, are a power of two. Length 2, radius 4, from
+   0: (1,3) .. (-1,-3) (2,2) .. (-2,-2) (3,1) .. (-3,-1), then no point for 12 to 15, then (0,4) (0,-4) (4,0) (-4,0). */
 
 #include "comparisons.h"
 
 #include <stdio.h>
 #include <string.h>
 
-enum { MOST_LISTED = 100000 }; /* the N up to which every point of a shell is compared */
+enum { MOST_LISTED = 100000 }; /* the total up to which every index of a shell is compared */
 
 /* A listing under way: the point as far as it is made, and the number that the next one gets. */
 struct listing {
@@ -36,7 +41,7 @@ struct listing {
     uint64_t next;
 };
 
-static uint64_t shells_listed[SELECTORS], points_listed[SELECTORS];
+static uint64_t shells_listed[SELECTORS], points_listed[SELECTORS], empty_listed;
 
 /* The point is whole: its number is its index. The program's own ranking, and its way back, are held to
    the listing too. */
@@ -50,6 +55,17 @@ static void list_point(struct listing *to)
         own_error("its point of an index and its listing differ", to->shell);
     if (rank(to->shell, to->point) != to->next)
         own_error("its ranking and its listing differ", to->shell);
+    points_listed[to->shell.selector]++;
+    to->next++;
+}
+
+/* An empty shape: its number names no point. */
+static void list_empty(struct listing *to)
+{
+    if (names_point(to->shell, to->next))
+        own_error("a number that its listing passes over names a point", to->shell);
+    expect_point_refused(to->shell, to->next, to->shell.length, 15);
+    empty_listed++;
     to->next++;
 }
 
@@ -80,12 +96,23 @@ static void list_shapes(struct listing *to, uint64_t from, uint64_t sum)
     }
 }
 
+/* The shapes of a pattern; in the product-product enumeration then the empty ones, each with all its signs. */
+static void list_field(struct listing *to)
+{
+    const uint64_t start = to->next;
+    list_shapes(to, 0, to->shell.radius);
+    const uint64_t shapes = (to->next - start) >> to->s;
+    const uint64_t field = to->shell.selector == PRODUCT_PRODUCT ? least_power_from(shapes) : shapes;
+    while (to->next - start < field << to->s)
+        list_empty(to);
+}
+
 /* Patterns of the coordinates from `at` on, `nonzero` of them nonzero: a zero, where enough coordinates are left,
    then a nonzero. */
 static void list_patterns(struct listing *to, uint64_t at, uint64_t nonzero)
 {
     if (at == to->shell.length) {
-        list_shapes(to, 0, to->shell.radius);
+        list_field(to);
         return;
     }
     if (nonzero < to->shell.length - at) {
@@ -129,21 +156,24 @@ static void list_by_magnitude(struct listing *to)
 static void list_shell(struct shell shell)
 {
     struct listing to = {.shell = shell};
-    if (points_of(shell) > MOST_LISTED)
+    if (total_of(shell) > MOST_LISTED)
         return;
     (shell.selector == MAGNITUDE ? list_by_magnitude : list_by_product)(&to);
-    if (to.next != points_of(shell))
-        own_error("it lists another number of points than N", shell);
+    if (to.next != total_of(shell))
+        own_error("it lists another number of indices than the total", shell);
     shells_listed[shell.selector]++;
-    points_listed[shell.selector] += to.next;
 }
 
 void compare_listing(void)
 {
+    static const uint64_t shells[SELECTORS] = {224, 224, 219}, points[SELECTORS] = {2067158, 2067158, 1639670};
     for_each_numbering(list_shell);
+    printf("listed:");
     for (uint64_t selector = 0; selector < SELECTORS; selector++) {
-        own_figure("shells with N at most 100,000", shells_listed[selector], 224);
-        own_figure("points of these", points_listed[selector], 2067158);
+        own_figure("shells with a total of at most 100,000", shells_listed[selector], shells[selector]);
+        own_figure("points of these", points_listed[selector], points[selector]);
+        printf(" %lu shells and %lu points of selector %lu,", shells_listed[selector], points_listed[selector], selector);
     }
-    printf("listed: %lu shells, %lu points, in each of %d enumerations\n", shells_listed[0], points_listed[0], SELECTORS);
+    own_figure("empty shapes, with their signs", empty_listed, 492120);
+    printf(" %lu indices that name no point\n", empty_listed);
 }

@@ -6,10 +6,10 @@
 
 #include <stdio.h>
 
-/* 10 and 14 are reasons of an unreadable place: no call refuses with them. */
+/* 10 and 14 are reasons of an unreadable place alone: no call refuses with them. */
 static void print_compared(void)
 {
-    const int refusals[] = {1, 2, 3, 4, 5, 6, 7, 8, 9, 11, 12, 13, 20};
+    const int refusals[] = {1, 2, 3, 4, 5, 6, 7, 8, 9, 11, 12, 13, 15, 20};
     printf("refused:");
     for (uint64_t i = 0; i < ENTRIES(refusals); i++)
         printf("%s %lu with %d", i > 0 ? "," : "", compared.refusals[refusals[i]], refusals[i]);

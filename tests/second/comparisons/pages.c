@@ -1,6 +1,6 @@
-/* The page: the whole case of docs/RULES.md, "Worked cases", also with codeword 20, and the same in a row of selector
-   1; and then all that is compared by chance, in the files that are named so. The draws begin anew here, so that they
-   do not depend on the comparisons before. */
+/* The page: the whole case of docs/RULES.md, "Worked cases", also with codeword 20, and the same in rows of the other
+   selectors; empty shapes; and then all that is compared by chance, in the files that are named so. The draws begin
+   anew here, so that they do not depend on the comparisons before. */
 
 #include "../kinds/page_kinds.h"
 #include "comparisons.h"
@@ -26,6 +26,9 @@ static const struct {
     [MAGNITUDE] = {{{{0, SOUND}}, {0, -1, -1}, {0, MINUS(BITS_OF_1), MINUS(BITS_OF_1)}},
                    {{{0, MENDED}}, {0, 1, 1}, {0, BITS_OF_1, BITS_OF_1}},
                    {{{0, MENDED, 0, 2}}, {0, -1, 1}, {0, MINUS(BITS_OF_1), BITS_OF_1}}},
+    [PRODUCT_PRODUCT] = {{{{0, SOUND}}, {1, 0, -1}, {BITS_OF_1, 0, MINUS(BITS_OF_1)}},
+                         {{{0, MENDED}}, {0, -1, 1}, {0, MINUS(BITS_OF_1), BITS_OF_1}},
+                         {{{0, MENDED, 0, 2}}, {1, 0, 1}, {BITS_OF_1, 0, BITS_OF_1}}},
 };
 enum { PLACES = 2, WITH_CODEWORD_20 = 2, LENGTH = 3 };
 
@@ -87,6 +90,7 @@ void compare_pages(void)
         compare_whole_case();
         compare_codeword_20();
     }
+    compare_empty_shapes();
     compare_takes();
     compare_runs();
     compare_places();

@@ -1,13 +1,13 @@
-/* Reading places and single coefficients: in every usable shell and in both enumerations the codewords beside which the
-   answer changes and others; and any cells, places, lengths and coordinates by chance. See docs/RULES.md, "The
-   page". */
+/* Reading places and single coefficients: in every usable shell and in each enumeration the codewords beside which the
+   answer changes, those of empty shapes, and others; and any cells, places, lengths and coordinates by chance. See
+   docs/RULES.md, "The page". */
 
 #include "../draws/page_draws.h"
 #include "comparisons.h"
 
 #include <stdio.h>
 
-enum { TABLES_OF_SHELL = 18, CODEWORDS_OF_SHELL = 20, TABLES = 1200, QUESTIONS_OF_TABLE = 100 };
+enum { TABLES_OF_SHELL = 18, CODEWORDS_OF_SHELL = 20, MORE_IF_EMPTY = 12, TABLES = 1200, QUESTIONS_OF_TABLE = 100 };
 
 static struct page page;
 
@@ -31,15 +31,20 @@ static void compare_place(const struct table *table, uint64_t place, int is_all)
         compare_coefficient(&(struct question){table, &page, place, coordinate});
 }
 
-/* A codeword for number i: those beside which the answer changes, then below N, mended, and 2^b or more where
-   there are such. */
+/* A codeword for number i: those beside which the answer changes, then sound ones, mended ones and those of 2^b or more
+   where there are such, and last, in turn with more of these, those of empty shapes. */
 static uint64_t codeword_of_number(struct shell shell, uint64_t i)
 {
-    const uint64_t n = points_of(shell), bounds[] = {0, n, least_power_from(n), TWO_TO_32};
-    const uint64_t least = bounds[i % 3], bound = bounds[i % 3 + 1];
+    const uint64_t total = total_of(shell), power = least_power_from(total);
     if (i < CODEWORDS_BESIDE)
         return codeword_beside(shell, i);
-    return least < bound ? least + chance_below(bound - least) : chance_below(n);
+    if (i >= CODEWORDS_OF_SHELL && i % 2 == 0)
+        return empty_codeword(shell);
+    if (i % 3 == 1 && is_any_mended(shell))
+        return mended_codeword(shell);
+    if (i % 3 == 2 && power < TWO_TO_32)
+        return power + chance_below(TWO_TO_32 - power);
+    return next_named(shell, chance_below(total));
 }
 
 /* A table that has the shell in one of its rows, and a place of this row. */
@@ -55,7 +60,7 @@ static void compare_codewords(struct shell shell)
     while (table.bytes[row * ROW_SIZE + AT_RADII + number] != shell.radius)
         number++;
     page_by_chance(&page, &table, 8);
-    for (uint64_t i = 0; i < CODEWORDS_OF_SHELL; i++) {
+    for (uint64_t i = 0; i < CODEWORDS_OF_SHELL + (has_empty_shapes(shell) ? MORE_IF_EMPTY : 0); i++) {
         uint8_t cell[CELL_SIZE] = {STATE_HELD};
         write_record(cell + AT_RECORD, place, row, number, codeword_of_number(shell, i));
         set_cell(&page, place, cell);
@@ -93,6 +98,6 @@ void compare_places(void)
         for (int j = 0; j < QUESTIONS_OF_TABLE; j++)
             compare_question(&table);
     }
-    printf("places: 407 shells in %d tables of each selector, %d questions by chance on %d tables\n", TABLES_OF_SHELL,
+    printf("places: each usable shell in %d tables of each selector, %d questions by chance on %d tables\n", TABLES_OF_SHELL,
            TABLES * QUESTIONS_OF_TABLE, TABLES);
 }

@@ -24,6 +24,7 @@ static void compare_case(uint8_t selector)
     static const uint8_t records[SELECTORS][3 * RECORD_SIZE] = {
         [PRODUCT] = {0, 0, 0, 1, 0, 0, 0, 5, 0, 1, 0, 1, 0, 0, 0, 13, 0, 2, 1, 1, 0, 0, 0, 5},
         [MAGNITUDE] = {0, 0, 0, 1, 0, 0, 0, 9, 0, 1, 0, 1, 0, 0, 0, 1, 0, 2, 1, 1, 0, 0, 0, 7},
+        [PRODUCT_PRODUCT] = {0, 0, 0, 1, 0, 0, 0, 5, 0, 1, 0, 1, 0, 0, 0, 13, 0, 2, 1, 1, 0, 0, 0, 5},
     };
     right.table = pairing_bin;
     for (int i = 0; i < ROW_SIZE; i++)
@@ -130,8 +131,8 @@ static void compare_lengths(void)
 void compare_sends(void)
 {
     chance_from(SEED);
-    compare_case(PRODUCT);
-    compare_case(MAGNITUDE);
+    for (uint8_t selector = 0; selector < SELECTORS; selector++)
+        compare_case(selector);
     compare_pages_by_chance();
     compare_sets();
     compare_bad_tables();

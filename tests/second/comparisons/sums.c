@@ -1,4 +1,4 @@
-/* Refusal 5, in every usable shell and in both enumerations: magnitudes that do not sum to k, among them those that
+/* Refusal 5, in every usable shell and in each enumeration: magnitudes that do not sum to k, among them those that
    would where a sum wraps; docs/RULES.md, "Refusal numbers", and "Points and counts": any coordinate may be the lowest
    value there is. */
 

@@ -9,7 +9,7 @@
 enum { MOST_SIZE = 600, RUNS = 8, CHANGED_TABLES = 4, CHANCE_TABLES = 1000000 };
 
 /* What must have occurred among the tables by chance: each fault alone in a table, by its own number, and these. */
-enum { GOOD = FAULTS, BOTH_SELECTORS, TOTAL_OF_4096, TOTAL_OF_4097, ROW_ABOVE_0, LAST_ROW, MORE_BAD_ROWS, SORTS };
+enum { GOOD = FAULTS, EVERY_SELECTOR, LOST_RADIUS, TOTAL_OF_4096, TOTAL_OF_4097, ROW_ABOVE_0, LAST_ROW, MORE_BAD_ROWS, SORTS };
 
 static const char *const sorts[SORTS] = {
     [NO_BYTES] = "of no bytes",
@@ -24,11 +24,12 @@ static const char *const sorts[SORTS] = {
     [BEYOND_NOT_0] = "with only a position beyond the number that is not 0",
     [NO_STEP] = "with only a step of 0",
     [NO_PLACES] = "with only a row of no places",
-    [BAD_SELECTOR] = "with only a selector above 1",
+    [BAD_SELECTOR] = "with only a selector above 2",
     [BYTE_15_NOT_0] = "with only a byte 15 that is not 0",
     [TOTAL_PASSED] = "with only a total above 4,096",
     [GOOD] = "that is good",
-    [BOTH_SELECTORS] = "that is good with rows of both selectors",
+    [EVERY_SELECTOR] = "that is good with rows of each selector",
+    [LOST_RADIUS] = "with only a radius that is not usable, but would be with selector 0",
     [TOTAL_OF_4096] = "that is good with 4,096 places",
     [TOTAL_OF_4097] = "that is bad only because the total passes 4,096 by 1",
     [ROW_ABOVE_0] = "whose first bad row is above 0",
@@ -108,11 +109,12 @@ static void compare_changed_bytes(uint64_t rows)
     }
 }
 
-/* All values of two bytes of the whole case; returns how many of these tables are good. */
-static uint64_t compare_two_bytes(uint64_t one, uint64_t other)
+/* All values of two bytes of the whole case with a selector; returns how many of these tables are good. */
+static uint64_t compare_two_bytes(uint64_t one, uint64_t other, uint8_t selector)
 {
     struct table table = pairing_bin;
     const uint64_t good_before = good;
+    table.bytes[AT_SELECTOR] = selector;
     for (uint64_t values = 0; values < 65536; values++) {
         table.bytes[one] = (uint8_t)(values / 256);
         table.bytes[other] = (uint8_t)(values % 256);
@@ -121,13 +123,24 @@ static uint64_t compare_two_bytes(uint64_t one, uint64_t other)
     return good - good_before;
 }
 
+/* Whether the first bad row is bad by its selector's own total alone. */
+static int has_lost_radius(struct table table, struct judgment judgment)
+{
+    uint8_t *selector = table.bytes + judgment.row * ROW_SIZE + AT_SELECTOR;
+    if (judgment.faults != (uint32_t)1 << RADIUS_NOT_USABLE || *selector != PRODUCT_PRODUCT || judgment.bad_rows != 1)
+        return 0;
+    *selector = PRODUCT;
+    return judge(table.bytes, table.size).faults == 0;
+}
+
 static void note_sorts(const struct table *table, struct judgment judgment)
 {
     const int is_total_alone = judgment.faults == (uint32_t)1 << TOTAL_PASSED && judgment.bad_rows == 1;
     for (int fault = 0; fault < FAULTS; fault++)
         occurred[fault] += judgment.faults == (uint32_t)1 << fault && judgment.bad_rows <= 1;
     occurred[GOOD] += judgment.faults == 0;
-    occurred[BOTH_SELECTORS] += judgment.faults == 0 && do_rows_differ(table, AT_SELECTOR);
+    occurred[EVERY_SELECTOR] += judgment.faults == 0 && has_every_selector(table);
+    occurred[LOST_RADIUS] += has_lost_radius(*table, judgment) != 0;
     occurred[TOTAL_OF_4096] += judgment.faults == 0 && judgment.places == MOST_PLACES;
     occurred[TOTAL_OF_4097] += is_total_alone && judgment.places == MOST_PLACES + 1;
     occurred[ROW_ABOVE_0] += judgment.row > 0;
@@ -150,16 +163,17 @@ static void compare_tables_by_chance(void)
 
 void compare_tables(void)
 {
-    const uint64_t rows[] = {1, 2, 16, 32};
+    const uint64_t rows[] = {1, 2, 16, 32}, usable[SELECTORS + 1] = {407 - 16, 407 - 16, 403 - 16, 0};
     compare_whole_case();
     compare_sizes();
     compare_cut_sizes();
     for (uint64_t i = 0; i < ENTRIES(rows); i++)
         compare_changed_bytes(rows[i]);
-    own_figure("usable shells of a radius above 0", compare_two_bytes(AT_LENGTH, AT_RADII + 1), 407 - 16);
-    own_figure("steps", compare_two_bytes(AT_STEP, AT_STEP + 1), 65535);
-    own_figure("numbers of places of a table", compare_two_bytes(AT_PLACES, AT_PLACES + 1), MOST_PLACES);
-    own_figure("selectors, and values of byte 15", compare_two_bytes(AT_SELECTOR, AT_15), SELECTORS);
+    for (uint8_t selector = 0; selector <= SELECTORS; selector++)
+        own_figure("usable shells of a radius above 0", compare_two_bytes(AT_LENGTH, AT_RADII + 1, selector), usable[selector]);
+    own_figure("steps", compare_two_bytes(AT_STEP, AT_STEP + 1, PRODUCT), 65535);
+    own_figure("numbers of places of a table", compare_two_bytes(AT_PLACES, AT_PLACES + 1, PRODUCT), MOST_PLACES);
+    own_figure("selectors, and values of byte 15", compare_two_bytes(AT_SELECTOR, AT_15, PRODUCT), SELECTORS);
     compare_tables_by_chance();
     printf("tables: %lu compared, %lu good, %lu refused\n", good + refused, good, refused);
 }

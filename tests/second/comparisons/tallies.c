@@ -25,7 +25,7 @@ static void compare_alike(enum reading_word word)
 {
     struct table table = small_table_by_chance();
     for (uint64_t row = 0; row < table.size / ROW_SIZE; row++)
-        plant_shell(&table, row, (struct shell){3, 2, chance_below(SELECTORS)});
+        plant_shell(&table, row, (struct shell){3, 4, chance_below(SELECTORS)});
     begin_page(&page, judge(table.bytes, table.size).places);
     for (uint64_t place = 0; place < page.places; place++)
         draw_cell_with(&table, place, word);

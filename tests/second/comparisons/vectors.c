@@ -25,6 +25,7 @@ enum {
 static const uint8_t telling[ROW_SIZE] = {1, 8, 0, 1, 2, 3, 4, 5, 6, 7, 0, 1, 0, 1}; /* step 1: the radius number is a, up to 7 */
 static const uint8_t whole_case[ROW_SIZE] = {3, 2, 0, 2, [AT_STEP] = 1, 0, 0, 1};
 static const uint8_t by_magnitude[ROW_SIZE] = {3, 2, 0, 2, [AT_STEP] = 1, 0, 0, 1, MAGNITUDE};
+static const uint8_t with_fields[ROW_SIZE] = {2, 2, 0, 4, [AT_STEP] = 1, 0, 0, 1, PRODUCT_PRODUCT};
 static const uint8_t radius_1[ROW_SIZE] = {2, 2, 0, 1, [AT_STEP] = 1, 0, 0, 1};
 static const uint8_t radius_2[ROW_SIZE] = {2, 2, 0, 2, [AT_STEP] = 1, 0, 0, 1};
 
@@ -54,6 +55,10 @@ static const struct {
     {by_magnitude, {BITS_OF_3_2, 0, MINUS(BITS_OF_3_4)}, {.record = {[3] = 1, [7] = 9}}}, /* (1,0,-1) */
     {by_magnitude, {0, BITS_OF_257_256, 0}, {.record = {[3] = 1, [7] = 6}}},              /* (0,2,0) */
     {by_magnitude, {0, BITS_OF_1, 0}, {.record = {0}}},
+    {with_fields, {BITS_OF_3_2, MINUS(BITS_OF_3_2)}, {.record = {[3] = 1, [7] = 5}}},    /* sum 768: (2,-2) */
+    {with_fields, {MINUS(BITS_BELOW_32768), 0}, {.record = {[3] = 1, [7] = 19}}},        /* (-4,0) */
+    {with_fields, {0, BITS_OF_8388607_256}, {.record = {[3] = 1, [7] = 16}}},            /* (0,4) */
+    {with_fields, {BITS_OF_1, BITS_OF_1}, {.record = {0}}},                              /* sum 512, in the middle */
     {radius_1, {BITS_OF_1, BITS_OF_1}, {.record = {[3] = 1, [7] = 2}}}, /* (1,0) */
 };
 

@@ -54,11 +54,25 @@ void point_by_chance(struct shell shell, int32_t *point)
     sign_by_chance(magnitudes, shell.length, point);
 }
 
+/* An index of an empty shape; the shell must have one. */
+uint64_t empty_by_chance(struct shell shell)
+{
+    struct range range;
+    uint64_t s;
+    do {
+        s = 1 + chance_below(most_nonzero(shell));
+        range = range_of(shell, s);
+    } while (range.shapes == range.field);
+    const uint64_t pattern = chance_below(range.patterns), shape = range.shapes + chance_below(range.field - range.shapes);
+    return range.start + ((pattern * range.field + shape) << s) + chance_below((uint64_t)1 << s);
+}
+
 /* Radii of a row: 0, then others, each larger than the one before and usable, often the largest usable
    one as the last. */
-static void radii_by_chance(uint64_t length, uint64_t number, uint8_t *radii)
+static void radii_by_chance(uint8_t *row)
 {
-    const uint64_t largest = largest_radius(length);
+    const uint64_t largest = largest_radius(row[AT_LENGTH], row[AT_SELECTOR]), number = row[AT_NUMBER_OF_RADII];
+    uint8_t *radii = row + AT_RADII;
     radii[0] = 0;
     for (uint64_t i = 1, spare = largest - (number - 1); i < number; i++) {
         const uint64_t left_out = chance_below(spare + 1);
@@ -77,9 +91,9 @@ static void row_by_chance(uint8_t *row)
         row[i] = 0;
     row[AT_LENGTH] = (uint8_t)(1 + chance_below(MOST_LENGTH));
     row[AT_NUMBER_OF_RADII] = (uint8_t)(1 + chance_below(MOST_RADII));
-    radii_by_chance(row[AT_LENGTH], row[AT_NUMBER_OF_RADII], row + AT_RADII);
-    set_two_bytes(row + AT_STEP, chance_below(2) ? steps[chance_below(ENTRIES(steps))] : 1 + chance_below(65535));
     row[AT_SELECTOR] = (uint8_t)chance_below(SELECTORS);
+    radii_by_chance(row);
+    set_two_bytes(row + AT_STEP, chance_below(2) ? steps[chance_below(ENTRIES(steps))] : 1 + chance_below(65535));
 }
 
 /* Good rows of at most `most` places each, often 1, 255 or 256 where `most` allows all of these. */
@@ -106,7 +120,7 @@ void aim_total(struct table *table, uint64_t number, uint64_t total)
         set_two_bytes(aimed + AT_PLACES, total - before);
 }
 
-/* Gives a row a selector above 1, often 2 or 255. */
+/* Gives a row a selector above 2, often 3 or 255. */
 void spoil_selector(struct table *table)
 {
     const uint64_t row = chance_below(table->size / ROW_SIZE);
@@ -154,7 +168,8 @@ struct table table_by_chance(void)
 /* Gives a row other radii behind the first one: any usable ones, all equally likely, or those from 1 on. */
 static void spread_radii(uint8_t *row)
 {
-    const uint64_t number = row[AT_NUMBER_OF_RADII], most = chance_below(2) ? largest_radius(row[AT_LENGTH]) : number - 1;
+    const uint64_t number = row[AT_NUMBER_OF_RADII], largest = largest_radius(row[AT_LENGTH], row[AT_SELECTOR]);
+    const uint64_t most = chance_below(2) ? largest : number - 1;
     uint64_t have = 1;
     for (uint64_t radius = 1; radius <= most; radius++)
         if (chance_below(most - radius + 1) < number - have)

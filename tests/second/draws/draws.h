@@ -6,11 +6,12 @@
 
 #include "../rules/rules.h"
 
-/* chance.c: numbers, signs, points, rows and tables */
+/* chance.c: numbers, signs, points, empty shapes, rows and tables */
 void chance_from(uint64_t seed);
 uint64_t chance_below(uint64_t bound);
 void sign_by_chance(const uint64_t *magnitudes, uint64_t length, int32_t *point);
 void point_by_chance(struct shell shell, int32_t *point);
+uint64_t empty_by_chance(struct shell shell);
 struct table rows_by_chance(uint64_t rows, uint64_t most);
 void aim_total(struct table *table, uint64_t number, uint64_t total);
 void spoil_selector(struct table *table);
@@ -24,7 +25,10 @@ uint64_t some_place(const struct table *table);
 void place_by_chance(struct vector *vector);
 void coefficients_by_chance(struct vector *vector);
 
-/* others.c: a place that is not in a table, and another number than the right one */
+/* others.c: the shells that are usable by the selectors 0 and 1 and not by 2, a place that is not in a table, and
+   another number than the right one */
+enum { LOST_SHELLS = 4 };
+extern const struct shell lost_shells[LOST_SHELLS];
 uint64_t wrong_place(uint64_t places);
 uint64_t other_than(uint64_t right, uint64_t most);
 

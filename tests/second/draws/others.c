@@ -1,6 +1,10 @@
-/* Numbers by chance that are not the right ones. */
+/* Shells, and numbers by chance, that are not the right ones. */
 
 #include "draws.h"
+
+const struct shell lost_shells[LOST_SHELLS] = {
+    {9, 27, PRODUCT_PRODUCT}, {10, 22, PRODUCT_PRODUCT}, {13, 15, PRODUCT_PRODUCT}, {16, 12, PRODUCT_PRODUCT},
+};
 
 /* A place past the end, or one that is in the table only where a number is cut. */
 uint64_t wrong_place(uint64_t places)

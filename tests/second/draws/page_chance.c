@@ -29,6 +29,16 @@ struct table large_table_by_chance(void)
     return table;
 }
 
+/* Gives a row one of the shells that its selector alone makes unusable. */
+static void lose_radius(uint8_t *row)
+{
+    const struct shell lost = lost_shells[chance_below(LOST_SHELLS)];
+    const uint8_t fields[] = {(uint8_t)lost.length, 2, 0, (uint8_t)lost.radius, 0, 0, 0, 0, 0, 0};
+    for (uint64_t i = 0; i < sizeof fields; i++)
+        row[i] = fields[i];
+    row[AT_SELECTOR] = (uint8_t)lost.selector;
+}
+
 /* Gives a table one of the faults that are rare by chance. */
 static void give_fault(struct table *table, enum fault fault)
 {
@@ -37,6 +47,8 @@ static void give_fault(struct table *table, enum fault fault)
         table->size = 0;
     if (fault == MORE_THAN_32_ROWS)
         *table = rows_by_chance(MOST_ROWS + 1, MOST_PLACES / (MOST_ROWS + 1));
+    if (fault == RADIUS_NOT_USABLE && chance_below(2))
+        lose_radius(row);
     if (fault == NO_STEP)
         set_two_bytes(row + AT_STEP, 0);
     if (fault == NO_PLACES)
@@ -64,7 +76,7 @@ void plant_shell(struct table *table, uint64_t number, struct shell shell)
     uint64_t have = 1;
     row[AT_LENGTH] = (uint8_t)shell.length;
     row[AT_SELECTOR] = (uint8_t)shell.selector;
-    for (uint64_t radius = 1; radius <= MOST_RADIUS && is_usable((struct shell){shell.length, radius, PRODUCT}); radius++) {
+    for (uint64_t radius = 1; radius <= largest_radius(shell.length, shell.selector); radius++) {
         const uint64_t kept = radius < shell.radius;
         if (radius == shell.radius || (have + kept < MOST_RADII && chance_below(4) == 0))
             row[AT_RADII + have++] = (uint8_t)radius;
@@ -77,20 +89,38 @@ void plant_shell(struct table *table, uint64_t number, struct shell shell)
 /* The codewords beside which the answer changes, as far as there are such. */
 uint64_t codeword_beside(struct shell shell, uint64_t number)
 {
-    const uint64_t n = points_of(shell), power = least_power_from(n);
-    const uint64_t beside[CODEWORDS_BESIDE] = {0, n - 1, n, n + 1, power - 1, power, power + 1, TWO_TO_32 - 1};
+    const uint64_t total = total_of(shell), power = least_power_from(total);
+    const uint64_t beside[CODEWORDS_BESIDE] = {0, total - 1, total, total + 1, power - 1, power, power + 1, TWO_TO_32 - 1};
     return beside[number] < TWO_TO_32 ? beside[number] : TWO_TO_32 - 1;
 }
 
-/* One of these, one that is sound or mended, or any. */
+/* An index of an empty shape, or a codeword past the end that is mended to it; the shell must have one. */
+uint64_t empty_codeword(struct shell shell)
+{
+    const uint64_t total = total_of(shell), half = least_power_from(total) / 2, index = empty_by_chance(shell);
+    const int is_mended_to = index < half && index + half >= total;
+    return is_mended_to && chance_below(2) ? index + half : index;
+}
+
+/* A codeword past the end that is mended; the shell must have one. */
+uint64_t mended_codeword(struct shell shell)
+{
+    const uint64_t total = total_of(shell), half = least_power_from(total) / 2, first = total - half;
+    const uint64_t left = next_named(shell, first + chance_below(half - first));
+    return half + (left < half ? left : next_named(shell, first));
+}
+
+/* One of the first, one of an empty shape, one that is mostly sound or mended, or any. */
 static uint64_t codeword_by_chance(struct shell shell)
 {
-    const uint64_t n = points_of(shell), power = least_power_from(n), choice = chance_below(8);
+    const uint64_t total = total_of(shell), power = least_power_from(total), choice = chance_below(8);
     if (choice < 3)
         return codeword_beside(shell, chance_below(CODEWORDS_BESIDE));
+    if (choice == 3 && has_empty_shapes(shell))
+        return empty_codeword(shell);
     if (choice < 5)
-        return chance_below(n);
-    return choice < 7 && n < power ? n + chance_below(power - n) : chance_below(TWO_TO_32);
+        return chance_below(total);
+    return choice < 7 && total < power ? total + chance_below(power - total) : chance_below(TWO_TO_32);
 }
 
 /* A radius number from the row's number of radii on, often below 8, and then often with codeword 0. */

@@ -36,6 +36,8 @@ struct table bad_table_by_chance(enum fault fault);
 void plant_shell(struct table *table, uint64_t row, struct shell shell);
 enum { CODEWORDS_BESIDE = 8 };
 uint64_t codeword_beside(struct shell shell, uint64_t number);
+uint64_t empty_codeword(struct shell shell);
+uint64_t mended_codeword(struct shell shell);
 void record_by_chance(const struct table *table, uint64_t place, uint8_t *record);
 void set_place(const struct table *table, uint64_t place, uint8_t *record);
 uint8_t foreign_row(const struct table *table, uint64_t place);

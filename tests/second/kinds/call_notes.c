@@ -161,7 +161,7 @@ static void note_shown(enum page_call call, struct reading reading)
     if (reading.word != SOUND && reading.word != MENDED)
         return;
     point_of(reading.shell, reading.index, point);
-    note_page(call, reading.shell.selector == MAGNITUDE ? MAGNITUDE_SHOWN : PRODUCT_SHOWN, is_index_telling(reading.shell, point));
+    note_page(call, (enum page_kind)(PRODUCT_SHOWN + reading.shell.selector), is_index_telling(reading.shell, point));
 }
 
 /* Where the place is not in the table, a length above 16 is no length of an output, and a coordinate above 15

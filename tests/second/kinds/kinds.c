@@ -7,7 +7,7 @@
 
 #include <stdio.h>
 
-enum { LEAST = 3000, LEAST_OF_SHELL = 150 };
+enum { LEAST = 3000, LEAST_OF_SHELL = 100 };
 
 static const char *const names[KINDS] = {
     [TURNED_HALF_DOWN] = "with another record if halves that are rounded down were rounded up",
@@ -47,10 +47,11 @@ static const char *const names[KINDS] = {
     [STEP_255] = "with step 255",
     [STEP_256] = "with step 256",
     [STEP_65535] = "with step 65,535",
-    [LARGEST_RADIUS] = "with the largest usable radius of the length",
+    [LARGEST_RADIUS] = "with the largest usable radius of the length and the selector",
     [CODEWORD_PAST_2_24] = "with a codeword of 2^24 or more",
-    [PRODUCT_TOLD] = "of selector 0 whose codeword would be another one with selector 1",
-    [MAGNITUDE_TOLD] = "of selector 1 whose codeword would be another one with selector 0",
+    [PRODUCT_TOLD] = "of selector 0 whose codeword would be another one with each other selector",
+    [MAGNITUDE_TOLD] = "of selector 1 whose codeword would be another one with each other selector",
+    [PRODUCT_PRODUCT_TOLD] = "of selector 2 whose codeword would be another one with each other selector",
     [QUIET_NAN] = "refused for a quiet NaN",
     [SIGNALLING_NAN] = "refused for a signalling NaN",
     [POSITIVE_INFINITY] = "refused for positive infinity",
@@ -83,7 +84,6 @@ static void note_row(const struct vector *vector, const struct quantizing *made)
 {
     const uint64_t last = vector->table.size / ROW_SIZE - 1, place = vector->place;
     const uint64_t step = two_bytes(vector->table.bytes + made->row * ROW_SIZE + AT_STEP);
-    const struct shell wider = {made->shell.length, made->shell.radius + 1, PRODUCT};
     note_if(place == 0, PLACE_0);
     note_if(place > 0 && row_of(&vector->table, place - 1) != made->row, FIRST_OF_ROW);
     note_if(made->row < last && row_of(&vector->table, place + 1) != made->row, LAST_OF_ROW);
@@ -93,9 +93,9 @@ static void note_row(const struct vector *vector, const struct quantizing *made)
     note_if(step == 255, STEP_255);
     note_if(step == 256, STEP_256);
     note_if(step == 65535, STEP_65535);
-    note_if(wider.radius > MOST_RADIUS || !is_usable(wider), LARGEST_RADIUS);
+    note_if(made->shell.radius == largest_radius(made->shell.length, made->shell.selector), LARGEST_RADIUS);
     note_if(made->answer.record[4] > 0, CODEWORD_PAST_2_24);
-    note_if(is_index_telling(made->shell, made->point), made->shell.selector == MAGNITUDE ? MAGNITUDE_TOLD : PRODUCT_TOLD);
+    note_if(is_index_telling(made->shell, made->point), (enum kind)(PRODUCT_TOLD + made->shell.selector));
     lengths[made->shell.length]++;
     numbers[made->number]++;
     rows[made->row]++;
@@ -181,5 +181,5 @@ void require_kinds(void)
     require(kinds[ONE_UNIT] + kinds[MORE_UNITS], refusals[0] / 4, "vectors", "with a remainder that gets one more");
     for_each_numbering(require_vectors);
     printf("kinds: %d kinds of vectors at least %d times each, ", KINDS, LEAST);
-    printf("407 shells at least %d times with each selector\n", LEAST_OF_SHELL);
+    printf("each usable shell at least %d times with each selector\n", LEAST_OF_SHELL);
 }

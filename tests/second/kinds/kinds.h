@@ -47,8 +47,9 @@ enum kind {
     STEP_65535,
     LARGEST_RADIUS,
     CODEWORD_PAST_2_24,
-    PRODUCT_TOLD,
+    PRODUCT_TOLD, /* this one and the next two in the order of the selectors */
     MAGNITUDE_TOLD,
+    PRODUCT_PRODUCT_TOLD,
     QUIET_NAN,
     SIGNALLING_NAN,
     POSITIVE_INFINITY,

@@ -12,7 +12,7 @@ enum { LEAST = 300, LEAST_OF_EACH = 100, RECORD_LENGTHS = MOST_TAKEN + 1 };
 
 /* What a kind is wanted for, as the bits of a set. */
 enum { T = 1 << TAKE, C = 1 << COLLECT, R = 1 << READ, K = 1 << COEFFICIENT, Y = 1 << TALLY, S = 1 << STORED, F = 1 << FOREIGN };
-enum { RK = R | K, TRK = T | RK, TRKY = TRK | Y, TCRKY = TRKY | C, TRKYS = TRKY | S, TRKYF = TRKY | F };
+enum { RK = R | K, TRK = T | RK, TRKY = TRK | Y, TCRKY = TRKY | C, TRKYS = TRKY | S, TRKYF = TRKY | F, TF = T | F };
 
 static const char *const calls[COUNTED_FOR] = {
     [TAKE] = "takes",
@@ -34,10 +34,12 @@ static const struct {
     [CELL_10_AND_0] = {TRKYS, "with a radius number below 8 that is not in the row, and codeword 0"},
     [CELL_10_FROM_8] = {TRKYS, "with a radius number of 8 or more"},
     [CELL_14] = {TRKYS, "with only a codeword of 2^b or more"},
-    [CODEWORD_0] = {TRKYS, "with codeword 0 and N above 1"},
-    [CODEWORD_BEFORE_N] = {TRKYS, "with codeword N - 1 and N no power of two"},
-    [CODEWORD_N] = {TRKYS, "with codeword N to be mended"},
-    [CODEWORD_PAST_N] = {TRKYS, "with codeword N + 1 to be mended"},
+    [CELL_15] = {TRKYS, "with a codeword below the total that names no point"},
+    [CELL_15_PAST_END] = {TRKYS, "with a codeword past the end that would be mended to no point"},
+    [CODEWORD_0] = {TRKYS, "with codeword 0 and a total above 1"},
+    [CODEWORD_BEFORE_END] = {TRKYS, "with the last codeword below the total, which is no power of two"},
+    [CODEWORD_AT_END] = {TRKYS, "with the first codeword past the end to be mended"},
+    [CODEWORD_PAST_END] = {TRKYS, "with the second codeword past the end to be mended"},
     [CODEWORD_BEFORE_POWER] = {TRKYS, "with codeword 2^b - 1 to be mended"},
     [CODEWORD_POWER] = {TRKYS, "with codeword 2^b"},
     [CODEWORD_LARGEST] = {TRKYS, "with codeword 2^32 - 1 and b below 32"},
@@ -47,10 +49,11 @@ static const struct {
     [WIDTH_32_MENDED] = {TRKYS, "with a mended cell and b = 32"},
     [DISTANCE_PAST_255] = {RK, "with a mended cell and a distance above 255"},
     [DISTANCE_PAST_2_24] = {RK, "with a mended cell and a distance of 2^24 or more"},
-    [POWER_SOUND] = {TRKYS, "with codeword N - 1 and N a power of two above 1"},
-    [POWER_14] = {TRKYS, "with codeword N and N a power of two above 1"},
-    [PRODUCT_SHOWN] = {RK, "of selector 0 with a point that would be another one with selector 1"},
-    [MAGNITUDE_SHOWN] = {RK, "of selector 1 with a point that would be another one with selector 0"},
+    [POWER_SOUND] = {TRKYS, "with the last codeword below the total, a power of two above 1"},
+    [POWER_14] = {TRKYS, "with the total as the codeword, a power of two above 1"},
+    [PRODUCT_SHOWN] = {RK, "of selector 0 with a point that has another index with each other selector"},
+    [MAGNITUDE_SHOWN] = {RK, "of selector 1 with a point that has another index with each other selector"},
+    [PRODUCT_PRODUCT_SHOWN] = {RK, "of selector 2 with a point that has another index with each other selector"},
     [EMPTY_ZEROS] = {TRKY, "with an empty cell of zeros"},
     [EMPTY_GARBAGE] = {TRKY, "with an empty cell that has other bytes"},
     [CONTESTED_ZEROS] = {TRKY, "with a contested cell of zeros"},
@@ -65,6 +68,7 @@ static const struct {
     [OTHER_ROW_ALONE] = {TRKYF, "with a record of another row that would be sound in the place's"},
     [OTHER_ROW_AND_10] = {TRKYF, "with a record of another row and no radius number of the place's"},
     [OTHER_ROW_AND_14] = {TRKYF, "with a record of another row and a codeword of 2^b or more in the place's"},
+    [OTHER_ROW_AND_15] = {TF, "with a record of another row and a codeword that names no point in the place's"},
     [ROW_BEFORE] = {TRKYF, "with a record of the row before"},
     [ROW_BEHIND] = {TRKYF, "with a record of the row behind"},
     [ROW_BEFORE_AT_FIRST] = {TRKYF, "with a record of the row before at the first place of a row"},
@@ -152,7 +156,7 @@ static const struct {
 
 static uint64_t kinds[COUNTED_FOR][PAGE_KINDS], faults[COUNTED_FOR][FAULTS], states[COUNTED_FOR][256];
 static uint64_t other_bytes[RECORD_SIZE], record_lengths[RECORD_LENGTHS], remainders[RECORD_SIZE];
-static uint64_t shells[COUNTED_FOR][READINGS][SELECTORS][MOST_LENGTH + 1][MOST_RADIUS + 1];
+static uint64_t shells[COUNTED_FOR][READINGS + 1][SELECTORS][MOST_LENGTH + 1][MOST_RADIUS + 1];
 static uint64_t selected[COUNTED_FOR][READINGS][SELECTORS];
 static uint64_t tallied[READINGS], tallied_past_255[READINGS], tallied_alone[READINGS];
 
@@ -188,15 +192,15 @@ void note_remainder(uint64_t length)
     remainders[length % RECORD_SIZE]++;
 }
 
-/* Unreadable stands for 14 alone. */
-static uint64_t *seen(enum page_call call, enum reading_word word, struct shell shell)
+/* Unreadable 15 stands behind the answers, which have unreadable 14. */
+static uint64_t *seen(enum page_call call, struct shell shell, enum reading_word word, uint64_t reason)
 {
-    return &shells[call][word][shell.selector][shell.length][shell.radius];
+    return &shells[call][reason == 15 ? READINGS : word][shell.selector][shell.length][shell.radius];
 }
 
-void note_shell(enum page_call call, enum reading_word word, struct shell shell)
+void note_shell(enum page_call call, struct shell shell, enum reading_word word, uint64_t reason)
 {
-    ++*seen(call, word, shell);
+    ++*seen(call, shell, word, reason);
 }
 
 /* A place of a row of that selector, and its answer. */
@@ -212,17 +216,18 @@ void note_tallied(enum reading_word word, uint64_t counted, uint64_t places)
     tallied_alone[word] += counted == places && places > 1;
 }
 
-/* Every usable shell is read with each selector: sound, mended where N is no power of two, and unreadable 14 where b is
-   below 32. */
+/* Every usable shell is read with each selector: sound, mended where a codeword is, unreadable 14 where b is below 32,
+   and unreadable 15 where there are empty shapes. */
 static void require_readings(struct shell shell)
 {
-    const uint64_t n = points_of(shell), power = least_power_from(n);
     for (enum page_call call = READ; call <= COEFFICIENT; call++) {
-        require_shell(*seen(call, SOUND, shell), LEAST_OF_EACH, "sound places", shell);
-        if (n < power)
-            require_shell(*seen(call, MENDED, shell), LEAST_OF_EACH, "mended places", shell);
-        if (power < TWO_TO_32)
-            require_shell(*seen(call, UNREADABLE, shell), LEAST_OF_EACH, "places unreadable 14", shell);
+        require_shell(*seen(call, shell, SOUND, 0), LEAST_OF_EACH, "sound places", shell);
+        if (is_any_mended(shell))
+            require_shell(*seen(call, shell, MENDED, 0), LEAST_OF_EACH, "mended places", shell);
+        if (least_power_from(total_of(shell)) < TWO_TO_32)
+            require_shell(*seen(call, shell, UNREADABLE, 14), LEAST_OF_EACH, "places unreadable 14", shell);
+        if (has_empty_shapes(shell))
+            require_shell(*seen(call, shell, UNREADABLE, 15), LEAST_OF_EACH, "places unreadable 15", shell);
     }
 }
 
@@ -245,7 +250,8 @@ static void require_numbers(enum page_call call)
 /* Every answer in rows of each selector, for the calls that look at cells. */
 static void require_selectors(enum page_call call)
 {
-    static const char *const places[SELECTORS] = {"places of rows of selector 0 that are", "places of rows of selector 1 that are"};
+    static const char *const places[SELECTORS] = {"places of rows of selector 0 that are", "places of rows of selector 1 that are",
+                                                  "places of rows of selector 2 that are"};
     for (int i = 0; call < PAGE_CALLS && call != COLLECT && i < READINGS * SELECTORS; i++)
         require(selected[call][i / SELECTORS][i % SELECTORS], LEAST, places[i % SELECTORS], reading_words[i / SELECTORS]);
 }
@@ -274,6 +280,6 @@ void require_page_kinds(void)
     for (enum page_call call = TAKE; call < COUNTED_FOR; call++)
         require_page_kinds_of(call, &so_far);
     for_each_numbering(require_readings);
-    printf("kinds of the page: %lu at least %lu times each, 407 shells at least %d times with each selector\n", so_far.kinds,
-           so_far.least, LEAST_OF_EACH);
+    printf("kinds of the page: %lu at least %lu times each, each usable shell at least %d times with each selector\n",
+           so_far.kinds, so_far.least, LEAST_OF_EACH);
 }

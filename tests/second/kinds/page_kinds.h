@@ -18,10 +18,12 @@ enum page_kind {
     CELL_10_AND_0,
     CELL_10_FROM_8,
     CELL_14,
+    CELL_15,
+    CELL_15_PAST_END,
     CODEWORD_0,
-    CODEWORD_BEFORE_N,
-    CODEWORD_N,
-    CODEWORD_PAST_N,
+    CODEWORD_BEFORE_END,
+    CODEWORD_AT_END,
+    CODEWORD_PAST_END,
     CODEWORD_BEFORE_POWER,
     CODEWORD_POWER,
     CODEWORD_LARGEST,
@@ -33,8 +35,9 @@ enum page_kind {
     DISTANCE_PAST_2_24,
     POWER_SOUND,
     POWER_14,
-    PRODUCT_SHOWN,
+    PRODUCT_SHOWN, /* this one and the next two in the order of the selectors */
     MAGNITUDE_SHOWN,
+    PRODUCT_PRODUCT_SHOWN,
     /* the other cells */
     EMPTY_ZEROS,
     EMPTY_GARBAGE,
@@ -51,6 +54,7 @@ enum page_kind {
     OTHER_ROW_ALONE,
     OTHER_ROW_AND_10,
     OTHER_ROW_AND_14,
+    OTHER_ROW_AND_15,
     ROW_BEFORE,
     ROW_BEHIND,
     ROW_BEFORE_AT_FIRST,
@@ -166,7 +170,7 @@ void note_state(enum page_call call, uint8_t state);
 void note_other_byte(uint64_t byte);
 void note_record_length(uint64_t length);
 void note_remainder(uint64_t length);
-void note_shell(enum page_call call, enum reading_word word, struct shell shell);
+void note_shell(enum page_call call, struct shell shell, enum reading_word word, uint64_t reason);
 void note_selector(enum page_call call, uint64_t selector, enum reading_word word);
 void note_tallied(enum reading_word word, uint64_t counted, uint64_t places);
 void require_page_kinds_of(enum page_call call, struct required *so_far);

@@ -5,20 +5,21 @@
 
 #include <string.h>
 
-/* A codeword in the row and with the radius number that it belongs to. */
-static void note_codeword(enum page_call call, struct shell shell, uint64_t codeword)
+/* A codeword in the row and with the radius number that it belongs to, and how it is read. */
+static void note_codeword(enum page_call call, struct shell shell, uint64_t codeword, struct reading reading)
 {
-    const uint64_t n = points_of(shell), power = least_power_from(n);
-    const int is_sound = codeword < n, is_mended = !is_sound && codeword < power, is_power = n == power;
-    const uint64_t distance = is_mended ? distance_of(shell, codeword) : 0;
-    note_shell(call, is_sound ? SOUND : is_mended ? MENDED : UNREADABLE, shell);
+    const uint64_t total = total_of(shell), power = least_power_from(total);
+    const int is_sound = reading.word == SOUND, is_mended = reading.word == MENDED, is_power = total == power;
+    note_shell(call, shell, reading.word, reading.reason);
     note_page(call, CELL_SOUND, is_sound);
     note_page(call, CELL_MENDED, is_mended);
-    note_page(call, CELL_14, codeword >= power);
-    note_page(call, CODEWORD_0, codeword == 0 && n > 1);
-    note_page(call, CODEWORD_BEFORE_N, codeword == n - 1 && !is_power);
-    note_page(call, CODEWORD_N, codeword == n && is_mended);
-    note_page(call, CODEWORD_PAST_N, codeword == n + 1 && is_mended);
+    note_page(call, CELL_14, reading.reason == 14);
+    note_page(call, CELL_15, reading.reason == 15 && codeword < total);
+    note_page(call, CELL_15_PAST_END, reading.reason == 15 && codeword >= total);
+    note_page(call, CODEWORD_0, codeword == 0 && total > 1);
+    note_page(call, CODEWORD_BEFORE_END, codeword == total - 1 && !is_power);
+    note_page(call, CODEWORD_AT_END, codeword == total && is_mended);
+    note_page(call, CODEWORD_PAST_END, codeword == total + 1 && is_mended);
     note_page(call, CODEWORD_BEFORE_POWER, codeword == power - 1 && is_mended);
     note_page(call, CODEWORD_POWER, codeword == power);
     note_page(call, CODEWORD_LARGEST, codeword == TWO_TO_32 - 1 && power < TWO_TO_32);
@@ -26,19 +27,19 @@ static void note_codeword(enum page_call call, struct shell shell, uint64_t code
     note_page(call, WIDTH_0_14, codeword == 1 && power == 1);
     note_page(call, WIDTH_32_SOUND, is_sound && power == TWO_TO_32);
     note_page(call, WIDTH_32_MENDED, is_mended && power == TWO_TO_32);
-    note_page(call, DISTANCE_PAST_255, distance > 255);
-    note_page(call, DISTANCE_PAST_2_24, distance >= 1 << 24);
-    note_page(call, POWER_SOUND, codeword == n - 1 && is_power && n > 1);
-    note_page(call, POWER_14, codeword == n && is_power && n > 1);
+    note_page(call, DISTANCE_PAST_255, reading.distance > 255);
+    note_page(call, DISTANCE_PAST_2_24, reading.distance >= 1 << 24);
+    note_page(call, POWER_SOUND, codeword == total - 1 && is_power && total > 1);
+    note_page(call, POWER_14, codeword == total && is_power && total > 1);
 }
 
-/* A record of the place and of its row. */
-static void note_held(enum page_call call, const struct table *table, uint64_t place, const uint8_t *record)
+/* A cell with a record of the place and of its row. */
+static void note_held(enum page_call call, const struct table *table, uint64_t place, const uint8_t *cell)
 {
-    const uint64_t codeword = codeword_of(record), radius_number = record[AT_RADIUS_NUMBER];
+    const uint64_t codeword = codeword_of(cell + AT_RECORD), radius_number = cell[AT_RECORD + AT_RADIUS_NUMBER];
     const uint8_t *row = row_at(table, place);
     if (radius_number < row[AT_NUMBER_OF_RADII]) {
-        note_codeword(call, shell_of(row, radius_number), codeword);
+        note_codeword(call, shell_of(row, radius_number), codeword, read_cell(table, place, cell));
         return;
     }
     note_page(call, CELL_10_AT_NUMBER, radius_number == row[AT_NUMBER_OF_RADII]);
@@ -49,14 +50,14 @@ static void note_held(enum page_call call, const struct table *table, uint64_t p
 /* A record of another row than that of its place: which row, and what the rest of it would be in the place's. */
 void note_foreign(enum page_call call, const struct table *table, const uint8_t *record)
 {
-    const uint64_t place = two_bytes(record + AT_PLACE), codeword = codeword_of(record), row = record[AT_ROW];
-    const uint64_t right = row_of(table, place), number = record[AT_RADIUS_NUMBER];
-    const uint8_t *fields = row_at(table, place);
-    const int is_10 = number >= fields[AT_NUMBER_OF_RADII];
-    const uint64_t n = is_10 ? 0 : points_of(shell_of(fields, number));
-    note_page(call, OTHER_ROW_ALONE, codeword < n);
-    note_page(call, OTHER_ROW_AND_10, is_10);
-    note_page(call, OTHER_ROW_AND_14, !is_10 && codeword >= least_power_from(n));
+    const uint64_t place = two_bytes(record + AT_PLACE), row = record[AT_ROW], right = row_of(table, place);
+    uint8_t cell[CELL_SIZE] = {STATE_HELD};
+    write_record(cell + AT_RECORD, place, right, record[AT_RADIUS_NUMBER], codeword_of(record));
+    const struct reading reading = read_cell(table, place, cell);
+    note_page(call, OTHER_ROW_ALONE, reading.word == SOUND);
+    note_page(call, OTHER_ROW_AND_10, reading.reason == 10);
+    note_page(call, OTHER_ROW_AND_14, reading.reason == 14);
+    note_page(call, OTHER_ROW_AND_15, reading.reason == 15);
     note_page(call, ROW_BEFORE, row + 1 == right);
     note_page(call, ROW_BEHIND, row == right + 1 && row < table->size / ROW_SIZE);
     note_page(call, ROW_BEFORE_AT_FIRST, row + 1 == right && row_of(table, place - 1) == row);
@@ -90,7 +91,7 @@ void note_cell(enum page_call call, const struct table *table, uint64_t place, c
     if (changed == 0 && is_other_row)
         note_foreign(call, table, record);
     if (changed == 0 && !is_other_row)
-        note_held(call, table, place, record);
+        note_held(call, table, place, cell);
 }
 
 /* Where a call looks that is answered, or refused with 12. */

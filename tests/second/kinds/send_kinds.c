@@ -15,7 +15,7 @@ static const char *const names[SEND_KINDS] = {
     [SENT_4096_PLACES] = "of 4,096 places that are sent",
     [SENT_PAST_255] = "of more than 255 places that are sent",
     [SENT_MIXED_LENGTHS] = "of rows of different lengths that are sent",
-    [SENT_MIXED_SELECTORS] = "of rows of both selectors that are sent",
+    [SENT_EVERY_SELECTOR] = "of rows of each selector that are sent",
     [SENT_BELOW_32768] = "that are sent with the largest coefficient below 32,768",
     [SENT_ABOVE_MINUS_32768] = "that are sent with the lowest coefficient above -32,768",
     [SEND_7_SIZE] = "refused with 7 for the size of the table",
@@ -99,7 +99,7 @@ static void note_sent(const struct sending *sending)
     note_kind(SENT_4096_PLACES, places == MOST_PLACES);
     note_kind(SENT_PAST_255, places > 255);
     note_kind(SENT_MIXED_LENGTHS, do_rows_differ(&sending->table, AT_LENGTH));
-    note_kind(SENT_MIXED_SELECTORS, do_rows_differ(&sending->table, AT_SELECTOR));
+    note_kind(SENT_EVERY_SELECTOR, has_every_selector(&sending->table));
     note_kind(SENT_BELOW_32768, is_largest);
     note_kind(SENT_ABOVE_MINUS_32768, is_lowest);
 }

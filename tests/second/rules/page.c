@@ -24,15 +24,6 @@ uint64_t codeword_of(const uint8_t *record)
     return two_bytes(record + AT_CODEWORD) * 65536 + two_bytes(record + AT_CODEWORD + 2);
 }
 
-/* 2^b for N: "the least number of bits with 2^b at least T. The widths of 0 and of 1 are 0." */
-uint64_t least_power_from(uint64_t n)
-{
-    uint64_t power = 1;
-    while (power < n)
-        power *= 2;
-    return power;
-}
-
 /* 9: "the record's row is not the row of its place". The place must be in the table. */
 int is_foreign(const struct table *table, const uint8_t *record)
 {
@@ -62,14 +53,17 @@ static struct reading read_record(const struct table *table, uint64_t place, con
     if (record[AT_RADIUS_NUMBER] >= row[AT_NUMBER_OF_RADII])
         return unreadable(10);
     const struct shell shell = shell_of(row, record[AT_RADIUS_NUMBER]);
-    const uint64_t n = points_of(shell), power = least_power_from(n);
+    const uint64_t total = total_of(shell), power = least_power_from(total);
     if (codeword >= power)
         return unreadable(14);
-    if (codeword < n)
+    const uint64_t left = codeword < total ? codeword : codeword - power / 2;
+    if (left >= total)
+        own_error("a mended index is past the end", shell);
+    if (!names_point(shell, left))
+        return unreadable(15);
+    if (codeword < total)
         return (struct reading){.word = SOUND, .shell = shell, .index = codeword};
-    if (codeword - power / 2 >= n)
-        own_error("a mended index is N or more", shell);
-    return (struct reading){.word = MENDED, .shell = shell, .index = codeword - power / 2, .distance = distance_of(shell, codeword)};
+    return (struct reading){.word = MENDED, .shell = shell, .index = left, .distance = distance_of(shell, codeword)};
 }
 
 /* A cell that is not at fault. */
@@ -80,6 +74,14 @@ struct reading read_cell(const struct table *table, uint64_t place, const uint8_
     if (cell[AT_STATE] == STATE_CONTESTED)
         return (struct reading){.word = CONTESTED};
     return read_record(table, place, cell + AT_RECORD);
+}
+
+/* Whether a codeword of the shell is mended: of those past the end what is left runs from the total less 2^(b-1) to
+   before 2^(b-1). */
+int is_any_mended(struct shell shell)
+{
+    const uint64_t total = total_of(shell), half = least_power_from(total) / 2, first = total - half;
+    return first < half && next_named(shell, first) < half;
 }
 
 /* "The cell of a place that is claimed goes by the page rule". */

@@ -66,10 +66,10 @@ const uint8_t *cell_at(const struct page *page, uint64_t place);
 /* page.c: what the calls must answer, and make of a page */
 extern const char *const reading_words[READINGS];
 uint64_t codeword_of(const uint8_t *record);
-uint64_t least_power_from(uint64_t n);
 int is_foreign(const struct table *table, const uint8_t *record);
 int is_at_fault(const struct table *table, uint64_t place, const uint8_t *cell);
 struct reading read_cell(const struct table *table, uint64_t place, const uint8_t *cell);
+int is_any_mended(struct shell shell);
 struct list take(const struct table *table, struct page *page, const struct arrival *arrival);
 uint64_t collect_bytes(const struct table *table, struct page *page, const uint8_t *bytes, uint64_t size);
 uint64_t collect(const struct table *table, struct page *page, const struct arrival *run);

@@ -33,7 +33,7 @@ static uint32_t faults_of_size(uint64_t size)
 }
 
 /* "the first n: 0, then each larger than the one before, each usable with l": the radius at a position within the
-   number. With a bad length no shell is there to be usable or not. */
+   number. With a bad length no shell is there to be usable or not. With a bad selector N alone is looked at. */
 static uint32_t faults_of_radius(const uint8_t *row, uint64_t position)
 {
     const uint8_t *radius = row + AT_RADII + position;
@@ -112,6 +112,17 @@ int do_rows_differ(const struct table *table, uint64_t at)
     for (uint64_t row = 0; row < table->size; row += ROW_SIZE)
         is_other |= table->bytes[row + at] != table->bytes[at];
     return is_other;
+}
+
+/* Whether each selector is that of a row of a good table. */
+int has_every_selector(const struct table *table)
+{
+    int has[SELECTORS] = {0}, has_all = 1;
+    for (uint64_t row = 0; row < table->size; row += ROW_SIZE)
+        has[table->bytes[row + AT_SELECTOR]] = 1;
+    for (uint64_t selector = 0; selector < SELECTORS; selector++)
+        has_all &= has[selector];
+    return has_all;
 }
 
 /* The shell of the row's radius with that number, and the row's selector. */

@@ -1,19 +1,19 @@
-/* How far an index is past the end, and what index and point must answer; docs/RULES.md, "The product index", "The
-   magnitude index", "Refusal numbers" and "Order of checks". */
+/* How far an index is past the end, and what index and point must answer; docs/RULES.md, "Enumerations", "Refusal
+   numbers" and "Order of checks". */
 
 #include "rules.h"
 
 static int is_past_end(struct shell shell, uint64_t index)
 {
-    return index >= points_of(shell);
+    return index >= total_of(shell);
 }
 
-/* "An index of N or more is past the end, and names no point. Its distance is the index less N". */
+/* An index of the total or more is past the end. Its distance is the index less the total. */
 uint64_t distance_of(struct shell shell, uint64_t index)
 {
     if (!is_past_end(shell, index))
         own_error("a distance is asked for that there is not", shell);
-    return index - points_of(shell);
+    return index - total_of(shell);
 }
 
 int is_on_shell(struct shell shell, const int32_t *vector)
@@ -48,7 +48,7 @@ struct list index_at(struct shell shell, const int32_t *vector, uint64_t length)
     return is_on_shell(shell, vector) ? (struct list){{0, rank(shell, vector)}} : (struct list){{5}};
 }
 
-/* "point | 20, 1, 2, 3, 4, 6"; 6 names "its distance". On a refusal nothing is said of the point. */
+/* "point | 20, 1, 2, 3, 4, 6, 15"; 6 names "its distance". On a refusal nothing is said of the point. */
 struct list point_at(const struct pointing *asked, int32_t *point)
 {
     const uint64_t refusal = checked(asked->shell, asked->length);
@@ -56,6 +56,8 @@ struct list point_at(const struct pointing *asked, int32_t *point)
         return (struct list){{refusal}};
     if (is_past_end(asked->shell, asked->index))
         return (struct list){{6, distance_of(asked->shell, asked->index)}};
+    if (!names_point(asked->shell, asked->index))
+        return (struct list){{15}};
     point_of(asked->shell, asked->index, point);
     return (struct list){{0}};
 }

@@ -1,5 +1,5 @@
-/* The index of a point and the point of an index, by the enumeration that the selector selects; docs/RULES.md, "The
-   product index" and "The magnitude index". */
+/* The total of a shell, the index of a point and the point of an index, by the enumeration that the selector selects;
+   docs/RULES.md, "The product index", "The magnitude index" and "The product-product index". */
 
 #include "rules.h"
 
@@ -16,20 +16,40 @@ uint64_t magnitude(int32_t coordinate)
     return (uint64_t)(wide < 0 ? -wide : wide);
 }
 
+/* How many indices the shell has: N, but by the product-product enumeration. */
+uint64_t total_of(struct shell shell)
+{
+    return shell.selector == PRODUCT_PRODUCT ? product_total(shell) : points_of(shell);
+}
+
 /* The point must lie on the shell. */
 uint64_t rank(struct shell shell, const int32_t *point)
 {
     return (shell.selector == MAGNITUDE ? magnitude_rank : product_rank)(shell, point);
 }
 
-/* Whether the index of a point tells which enumeration it is of: in the other one the point has another index. */
+/* Whether the index of a point tells which enumeration it is of: in each other one the point has another index. */
 int is_index_telling(struct shell shell, const int32_t *point)
 {
-    const struct shell other = {shell.length, shell.radius, shell.selector == MAGNITUDE ? PRODUCT : MAGNITUDE};
-    return rank(shell, point) != rank(other, point);
+    const uint64_t index = rank(shell, point);
+    int is_telling = 1;
+    for (uint64_t selector = 0; selector < SELECTORS; selector++)
+        is_telling &= selector == shell.selector || rank((struct shell){shell.length, shell.radius, selector}, point) != index;
+    return is_telling;
 }
 
-/* The index must be below N; the ranking must lead back. */
+/* The first index from one below the total on that names a point: only an empty shape names none. */
+uint64_t next_named(struct shell shell, uint64_t index)
+{
+    return shell.selector == PRODUCT_PRODUCT ? next_with_shape(shell, index) : index;
+}
+
+int names_point(struct shell shell, uint64_t index)
+{
+    return index < total_of(shell) && next_named(shell, index) == index;
+}
+
+/* The index must name a point; the ranking must lead back. */
 void point_of(struct shell shell, uint64_t index, int32_t *point)
 {
     (shell.selector == MAGNITUDE ? magnitude_point : product_point)(shell, index, point);

@@ -27,7 +27,7 @@ enum {
 #define ENTRIES(array) (sizeof(array) / sizeof *(array))
 
 /* The selectors: which enumeration numbers the points of a shell. */
-enum { PRODUCT, MAGNITUDE, SELECTORS };
+enum { PRODUCT, MAGNITUDE, PRODUCT_PRODUCT, SELECTORS };
 
 /* A length and a radius, so that neither is taken for the other, and the selector. Where a refusal is asked for, they
    may be any numbers. */
@@ -82,29 +82,44 @@ struct answer {
     uint8_t record[RECORD_SIZE];
 };
 
-/* shells.c: N, the shells that N makes usable, and the errors of a test itself */
+/* shells.c: N, the usable shells, and the errors of a test itself */
 typedef void visit_shell(struct shell shell);
 void count_points(void);
 uint64_t points_of(struct shell shell);
 int is_usable(struct shell shell);
-uint64_t largest_radius(uint64_t length);
+uint64_t largest_radius(uint64_t length, uint64_t selector);
+uint64_t least_power_from(uint64_t n);
 uint64_t most_nonzero(struct shell shell);
 void for_each_shell(visit_shell *visit);
 void for_each_numbering(visit_shell *visit);
 _Noreturn void own_error(const char *what, struct shell shell);
 void own_figure(const char *what, uint64_t figure, uint64_t known);
 
-/* ranking.c: the index of a point and the point of an index, by the enumeration that the selector selects */
+/* ranking.c: the total of a shell, the index of a point and the point of an index, by the enumeration that the selector
+   selects */
 void count_for_ranking(void);
 uint64_t magnitude(int32_t coordinate);
+uint64_t total_of(struct shell shell);
 uint64_t rank(struct shell shell, const int32_t *point);
+uint64_t next_named(struct shell shell, uint64_t index);
+int names_point(struct shell shell, uint64_t index);
 int is_index_telling(struct shell shell, const int32_t *point);
 void point_of(struct shell shell, uint64_t index, int32_t *point);
 
-/* product_order.c: the same by the product enumeration */
+/* product_order.c: the same by the product enumeration, and by the product-product enumeration */
+struct range {
+    uint64_t start;    /* its first index */
+    uint64_t patterns; /* D */
+    uint64_t shapes;   /* S */
+    uint64_t field;    /* how many numbers the shapes of a pattern have: S, or the power of two in which S has room */
+};
 void count_patterns_and_shapes(void);
+struct range range_of(struct shell shell, uint64_t s);
 uint64_t range_size(struct shell shell, uint64_t s);
+uint64_t product_total(struct shell shell);
 uint64_t product_rank(struct shell shell, const int32_t *point);
+uint64_t next_with_shape(struct shell shell, uint64_t index);
+int has_empty_shapes(struct shell shell);
 void product_point(struct shell shell, uint64_t index, int32_t *point);
 
 /* magnitude_order.c: and by the magnitude enumeration */
@@ -154,6 +169,7 @@ struct judgment judge(const uint8_t *bytes, uint64_t size);
 uint64_t row_of(const struct table *table, uint64_t place);
 const uint8_t *row_at(const struct table *table, uint64_t place);
 int do_rows_differ(const struct table *table, uint64_t at);
+int has_every_selector(const struct table *table);
 struct shell shell_of(const uint8_t *row, uint64_t number);
 
 /* quantizing.c: the record of a vector, and the steps on the way to it */

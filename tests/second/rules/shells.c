@@ -1,5 +1,5 @@
-/* The shells and N, by the recurrence of docs/RULES.md, "Points and counts"; and the errors of a test itself. N is the
-   same in every enumeration. */
+/* The shells and N, by the recurrence of docs/RULES.md, "Points and counts", and which of them are usable; and the
+   errors of a test itself. */
 
 #include "rules.h"
 
@@ -25,18 +25,28 @@ uint64_t points_of(struct shell shell)
     return table[shell.length][shell.radius];
 }
 
+/* By the total of its own enumeration. */
 int is_usable(struct shell shell)
 {
-    return points_of(shell) <= TWO_TO_32;
+    return total_of(shell) <= TWO_TO_32;
 }
 
-/* The largest radius with which a length is usable. */
-uint64_t largest_radius(uint64_t length)
+/* The largest radius with which a length is usable by that selector. */
+uint64_t largest_radius(uint64_t length, uint64_t selector)
 {
     uint64_t largest = MOST_RADIUS;
-    while (!is_usable((struct shell){length, largest, PRODUCT}))
+    while (!is_usable((struct shell){length, largest, selector}))
         largest--;
     return largest;
+}
+
+/* 2^b for a total: "the least number of bits with 2^b at least T. The widths of 0 and of 1 are 0." */
+uint64_t least_power_from(uint64_t n)
+{
+    uint64_t power = 1;
+    while (power < n)
+        power *= 2;
+    return power;
 }
 
 /* m, the smaller of l and k: the most coordinates that can be nonzero. */
@@ -53,13 +63,14 @@ void for_each_shell(visit_shell *visit)
             visit((struct shell){length, radius, PRODUCT});
 }
 
-/* Each usable shell in each enumeration. */
+/* Each enumeration with each shell that is usable by it. */
 void for_each_numbering(visit_shell *visit)
 {
     for (uint64_t length = 1; length <= MOST_LENGTH; length++)
-        for (uint64_t radius = 0; radius <= largest_radius(length); radius++)
+        for (uint64_t radius = 0; radius <= MOST_RADIUS; radius++)
             for (uint64_t selector = 0; selector < SELECTORS; selector++)
-                visit((struct shell){length, radius, selector});
+                if (is_usable((struct shell){length, radius, selector}))
+                    visit((struct shell){length, radius, selector});
 }
 
 void own_error(const char *what, struct shell shell)

@@ -1,19 +1,21 @@
 // The answer of a cell, in a good row.
-use counts::Radius;
 use numbering::inner::Found;
+use numbering::inner::Numbering;
 use numbering::inner::Sought;
+use numbering::inner::names;
 use numbering::inner::nowhere;
 use numbering::inner::of_row;
 use numbering::inner::seek;
 use ranges::inner::power;
+use ranges::inner::width;
 use records::inner::codeword_in;
 use records::inner::radius_number_in;
 use rows::inner::row::radii;
 use rules::Judged;
-use shell::width;
 ghost use mathlib.Core.Path.{_≡_};
-ghost use Prim.Native.Nat.{_^_, _≤_, _<_};
+ghost use Prim.Native.Nat.{_≤_, _<_};
 ghost use lib.ListN.{length};
+ghost use Rattle.numbering.specs.Numbered.{Usable, totalIn, namesIn};
 ghost use Rattle.tables.specs.Row.{radiiOf, radiusAt, IsRow};
 ghost use Rattle.records.specs.Record.{recordLength};
 ghost use Rattle.rules.specs.Judging.{judgeCodeword, judgeIn, judgeRecord};
@@ -25,20 +27,24 @@ pub struct Seen {
     pub found: Found,
 }
 
-// A codeword from the total on: past the width, or mended.
-fn judge_past(total: u64, radius: Radius, n: u64) -> Judged
-    requires { ⌜ (0 < total) × (total ≤ 2 ^ 32) × (total ≤ n) ⌝ }
-    ensures { λ r. ⌜ (r ≡ judgeCodeword total (radius .0) n) × NotSound r ⌝ }
+// A codeword from the total on: past the width, mended to an empty shape, or mended.
+fn judge_past(numbering: Numbering, total: u64, n: u64) -> Judged
+    requires { ⌜ Usable numbering × (total ≡ totalIn numbering) × (0 < total) × (total ≤ n) ⌝ }
+    ensures { λ r. ⌜ (r ≡ judgeCodeword (namesIn numbering) total (numbering .radius .0) n) × NotSound r ⌝ }
 {
     let b = width(total) as usize;
     if power(b) <= n {
         return Judged::Unreadable { reason: 14 };
     }
-    Judged::Mended {
-        radius: radius.0,
-        index: n - power(b - 1),
-        distance: n - total,
+    let index = n - power(b - 1);
+    if names(numbering, index) {
+        return Judged::Mended {
+            radius: numbering.radius.0,
+            index,
+            distance: n - total,
+        };
     }
+    Judged::Unreadable { reason: 15 }
 }
 
 // An answer that shows no point, or one that is still to be sought.
@@ -66,7 +72,8 @@ fn judge_codeword(row: &[u8], number: usize, n: u64) -> Seen
             },
             found,
         },
-        Sought::Past { total } => unseen(judge_past(total, radius, n)),
+        Sought::Empty => unseen(Judged::Unreadable { reason: 15 }),
+        Sought::Past { total } => unseen(judge_past(numbering, total, n)),
     }
 }
 

@@ -8,7 +8,7 @@ use Rattle.answers.specs.Refusals.{verdictMeaning}
 use Rattle.answers.proofs.InOrder.{refused-says, passed-says}
 use Rattle.enumeration.specs.Enumeration.{Enumeration}
 use Rattle.enumeration.specs.Enumerations.{selectedBy}
-use Rattle.points.specs.Calls.{selectedChecks, indexRest}
+use Rattle.indexing.specs.Calls.{selectedChecks, indexRest}
 use Rattle.points.proofs.Says.{let-through, selected-in, usable-in}
 use Rattle.points.proofs.index.Statement.{statement}
 use Rattle.points.proofs.index.Tie as tie

@@ -9,7 +9,7 @@ use Rattle.answers.specs.Refusals.{verdictMeaning}
 use Rattle.answers.proofs.InOrder.{refused-says, refused-leaves, passed-says, passed-leaves}
 use Rattle.enumeration.specs.Enumeration.{Enumeration}
 use Rattle.enumeration.specs.Enumerations.{selectedBy}
-use Rattle.points.specs.Calls.{selectedChecks, pointRest}
+use Rattle.indexing.specs.Calls.{selectedChecks, pointRest}
 use Rattle.points.proofs.Says.{let-through, selected-in, usable-in}
 use Rattle.points.proofs.point.Statement.{statement}
 use Rattle.points.proofs.point.Tie as tie

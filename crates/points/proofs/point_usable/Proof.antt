@@ -1,5 +1,5 @@
--- `points::point_usable` says and leaves in a usable shell what the call point is to say and leave: refusals 4 and
--- 6, and the buffer as it was; or the point of the index.
+-- `points::point_usable` says and leaves in a usable shell what the call point is to say and leave: refusals 4, 6 and
+-- 15, and the buffer as it was; or the point of the index.
 use borrow.Author.Needs.{needs}
 use Prim.Native.Nat.{ℕ, _-_}
 use mathlib.Core.List.{[], _∷_}
@@ -7,7 +7,7 @@ use mathlib.Core.Path.{ap, _∙_}
 use native.Mathlib.Omega.{arith}
 use Rattle.counts.specs.Distance.{distance}
 use Rattle.numbering.specs.Numbered.{enumerationIn}
-use Rattle.points.proofs.Says.{point-4, point-6, point-0}
+use Rattle.points.proofs.Says.{point-4, point-6, point-15, point-0}
 use Rattle.points.proofs.point_usable.Statement.{statement}
 use Rattle.points.proofs.point_usable.Tie as tie
 
@@ -30,12 +30,15 @@ write-point-requires c κs =
     let there = rw (c .before .before .found .given .1) at (e .seek .ensures) in
     (record { usable = st .pre; below = there .0; named = there .1 }, there .2, e .before .if1 .left)
 
+enum-told : tie.Need-enum-told
+enum-told c = search needs
+
 enum-known-total : tie.Need-enum-known-total
 enum-known-total c = search needs
 
 -- a search that ends past the end tells the total, which the index has reached
-sub-t14 : tie.Need-sub-t14
-sub-t14 c =
+sub-t15 : tie.Need-sub-t15
+sub-t15 c =
     let past = rw (c .before .total .given .1) at (c .before .before .before .seek .ensures) in
     omega (arith, past .0, past .1)
 
@@ -48,12 +51,20 @@ returns-2 c =
     let a = e .before .before .before .args in
     let m = a .numbering in
     let there = rw (c .before .before .before .before .found .given .1) at (e .seek .ensures) in
-    let does = point-0 (enumerationIn m) (m .length .0) (m .radius .0) (a .n) (a .out .now) (e .before .if1 .left) (there .0) in
+    let does = point-0 (enumerationIn m) (m .length .0) (m .radius .0) (a .n) (a .out .now) (e .before .if1 .left) (there .0) (there .1) in
     (does .0, c .before .write-point .ensures ∙ does .1)
 
 returns-3 : tie.Need-returns-3
-unfolding distance
 returns-3 c =
+    let e = c .before .before in
+    let a = e .before .before .before .args in
+    let m = a .numbering in
+    let empty = rw (c .enum-told .given .1) at (e .seek .ensures) in
+    point-15 (enumerationIn m) (m .length .0) (m .radius .0) (a .n) (a .out .now) (e .before .if1 .left) (empty .0) (empty .1)
+
+returns-4 : tie.Need-returns-4
+unfolding distance
+returns-4 c =
     let e = c .before .before .before in
     let a = e .before .before .before .args in
     let m = a .numbering in
@@ -69,8 +80,10 @@ point-usable-spec =
     seek-requires
     enum-known-found
     write-point-requires
+    enum-told
     enum-known-total
-    sub-t14
+    sub-t15
     same-length
     returns-2
-    returns-3)
+    returns-3
+    returns-4)

@@ -2,7 +2,8 @@
 use borrow.Author.Needs.{needs}
 use mathlib.Core.Path.{sym, _∙_}
 use mathlib.Core.List.{[]}
-use Rattle.points.specs.Calls.{indexMeaning, indexSays}
+use Rattle.indexing.specs.Calls.{indexSays}
+use Rattle.points.specs.Meanings.{indexMeaning}
 use Rattle.probe.specs.Coded.{coded}
 use Rattle.probe.proofs.Codes.{says-coded, answer-coded}
 use Rattle.probe.proofs.probe_index.Statement.{statement}

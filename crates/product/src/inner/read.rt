@@ -3,16 +3,20 @@
 use crate::inner::components::Components;
 use crate::inner::range::Range;
 use coordinates::inner::signed;
+use counts::Field;
 use counts::Length;
 use counts::Radius;
 use ranges::inner::pattern_count;
+use ranges::inner::room;
 use ranges::inner::shape_count;
 ghost use mathlib.Core.Path.{_≡_};
+ghost use mathlib.Core.Bool.{true};
 ghost use mathlib.Core.List.{_∷_};
 ghost use Prim.Native.Nat.{suc, _≤_, _<_};
 ghost use lib.ListN as listed;
 ghost use Rattle.counts.specs.Counts.{S};
-ghost use Rattle.enumeration.specs.Reading.{productPoint};
+ghost use Rattle.counts.specs.Fields.{sizeOf};
+ghost use Rattle.enumeration.specs.Reading.{productPoint, productNames};
 ghost use Rattle.product.specs.Components.{IsIndexOf, MakesPoint, writtenFrom};
 ghost use Rattle.product.specs.Steps.{IsFirstOf, Nonzero, taken};
 
@@ -123,9 +127,9 @@ fn write(components: Components, out: &mut [i32])
 }
 
 // The components of the point of an index, from its position in its range. At radius 0 no coordinate is nonzero.
-fn components_at(length: Length, radius: Radius, n: u64, range: Range) -> Components
-    requires { ⌜ IsIndexOf (length .0) (radius .0) n (range .s) (range .start) ⌝ }
-    ensures { λ r. ⌜ MakesPoint r (length .0) × (productPoint (length .0) (radius .0) n ≡ writtenFrom r (length .0)) ⌝ }
+fn components_at(field: Field, length: Length, radius: Radius, n: u64, range: Range) -> Components
+    requires { ⌜ IsIndexOf field (length .0) (radius .0) n (range .s) (range .start) × (productNames (sizeOf field) (length .0) (radius .0) n ≡ true) ⌝ }
+    ensures { λ r. ⌜ MakesPoint r (length .0) × (productPoint (sizeOf field) (length .0) (radius .0) n ≡ writtenFrom r (length .0)) ⌝ }
 {
     let s = range.s;
     let within = n - range.start;
@@ -139,7 +143,7 @@ fn components_at(length: Length, radius: Radius, n: u64, range: Range) -> Compon
         };
     }
     let block = (within >> s) as u32;
-    let shapes = shape_count(s, radius);
+    let shapes = room(field, shape_count(s, radius));
     Components {
         s,
         k: radius.0,
@@ -149,10 +153,18 @@ fn components_at(length: Length, radius: Radius, n: u64, range: Range) -> Compon
     }
 }
 
-// The point of an index below N of a usable shell.
-pub fn write_point(length: Length, radius: Radius, n: u64, range: Range, out: &mut [i32])
-    requires { ⌜ IsIndexOf (length .0) (radius .0) n (range .s) (range .start) × (listed.length (now out) ≡ length .0) ⌝ }
-    ensures { λ r. ⌜ now (out .exit) ≡ productPoint (length .0) (radius .0) n ⌝ }
+// The point of an index of a usable shell that names one.
+pub fn write_point(
+    field: Field,
+    length: Length,
+    radius: Radius,
+    n: u64,
+    range: Range,
+    out: &mut [i32],
+)
+    requires { ⌜ IsIndexOf field (length .0) (radius .0) n (range .s) (range .start)
+        × (productNames (sizeOf field) (length .0) (radius .0) n ≡ true) × (listed.length (now out) ≡ length .0) ⌝ }
+    ensures { λ r. ⌜ now (out .exit) ≡ productPoint (sizeOf field) (length .0) (radius .0) n ⌝ }
 {
-    write(components_at(length, radius, n, range), out);
+    write(components_at(field, length, radius, n, range), out);
 }

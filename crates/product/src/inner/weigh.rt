@@ -1,17 +1,20 @@
 // The index of a point, in one pass from its last coordinate: the weight of what stands from a coordinate on is
 // made of that of what stands after it.
 use coordinates::inner::magnitude;
+use counts::Field;
 use counts::Length;
 use counts::Radius;
 use ranges::inner::pattern_count;
 use ranges::inner::range_start;
+use ranges::inner::room;
 use ranges::inner::shape_count;
 use ranges::inner::sign_count;
 ghost use mathlib.Core.Path.{_≡_};
 ghost use Prim.Native.Nat.{suc, _+_, _-_, _*_, _≤_, _<_};
 ghost use lib.ListN.{drop};
 ghost use lib.ListN as listed;
-ghost use Rattle.counts.specs.Counts.{N, B};
+ghost use Rattle.counts.specs.Counts.{B};
+ghost use Rattle.counts.specs.Fields.{sizeOf, fieldTotal};
 ghost use Rattle.enumeration.specs.Point.{OnShell, radiusOf};
 ghost use Rattle.enumeration.specs.Product.{signBit, productIndex};
 ghost use Rattle.tables.specs.Usable.{IsUsable};
@@ -132,34 +135,36 @@ fn weight_of(x: &[i32]) -> Weight
     weight
 }
 
-// What a weight sums up to: start + (pattern x shapes + shape) x signs + sign. The shape is as many before the last
-// one as come after it.
-fn sum_up(weight: Weight, start: u64, shapes: u64, signs: u64) -> u64
-    requires { ⌜ Summable weight start shapes signs ⌝ }
-    ensures { λ r. ⌜ r ≡ start + (weight .pattern * shapes + (shapes - 1 - weight .after)) * signs + weight .sign ⌝ }
+// What a weight sums up to: start + (pattern x room + shape) x signs + sign, with the room of the shape field. The
+// shape is as many before the last one as come after it.
+fn sum_up(weight: Weight, start: u64, shapes: u64, room: u64, signs: u64) -> u64
+    requires { ⌜ Summable weight start shapes room signs ⌝ }
+    ensures { λ r. ⌜ r ≡ start + (weight .pattern * room + (shapes - 1 - weight .after)) * signs + weight .sign ⌝ }
 {
     let shape = shapes - 1 - weight.after as u64;
-    start + (weight.pattern as u64 * shapes + shape) * signs + weight.sign
+    start + (weight.pattern as u64 * room + shape) * signs + weight.sign
 }
 
 // The index of the point of this weight. At radius 0 there are no nonzero coordinates, and the index is 0.
-fn weigh(length: Length, radius: Radius, weight: Weight) -> u64
-    requires { ⌜ IsUsable (length .0) (radius .0) (N (length .0) (radius .0)) × Weighable (length .0) (radius .0) weight ⌝ }
-    ensures { λ r. ⌜ r ≡ weighed (length .0) (radius .0) weight ⌝ }
+fn weigh(field: Field, length: Length, radius: Radius, weight: Weight) -> u64
+    requires { ⌜ IsUsable (length .0) (radius .0) (fieldTotal (sizeOf field) (length .0) (radius .0))
+        × Weighable (sizeOf field) (length .0) (radius .0) weight ⌝ }
+    ensures { λ r. ⌜ r ≡ weighed (sizeOf field) (length .0) (radius .0) weight ⌝ }
 {
     let s = weight.s;
     if s == 0 {
         return 0;
     }
-    let start = range_start(s, length, radius);
-    let shapes = shape_count(s, radius) as u64;
-    sum_up(weight, start, shapes, sign_count(s))
+    let start = range_start(field, s, length, radius);
+    let shapes = shape_count(s, radius);
+    let room = room(field, shapes);
+    sum_up(weight, start, shapes as u64, room as u64, sign_count(s))
 }
 
 // The index of a point of a usable shell.
-pub fn index_of(length: Length, radius: Radius, x: &[i32]) -> u64
-    requires { ⌜ IsUsable (length .0) (radius .0) (N (length .0) (radius .0)) × OnShell (length .0) (radius .0) (now x) ⌝ }
-    ensures { λ r. ⌜ r ≡ productIndex (now (x .entry)) ⌝ }
+pub fn index_of(field: Field, length: Length, radius: Radius, x: &[i32]) -> u64
+    requires { ⌜ IsUsable (length .0) (radius .0) (fieldTotal (sizeOf field) (length .0) (radius .0)) × OnShell (length .0) (radius .0) (now x) ⌝ }
+    ensures { λ r. ⌜ r ≡ productIndex (sizeOf field) (now (x .entry)) ⌝ }
 {
-    weigh(length, radius, weight_of(x))
+    weigh(field, length, radius, weight_of(x))
 }

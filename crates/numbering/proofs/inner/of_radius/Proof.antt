@@ -1,7 +1,7 @@
 -- `numbering::inner::of_radius` takes the length and the selector from the row.
 use mathlib.Core.Path.{refl, ap, _∙_}
 use borrow.Author.Needs.{needs}
-use Rattle.numbering.specs.Numbered.{selectedOf}
+use Rattle.selectors.specs.Selected.{selectedOf}
 use Rattle.numbering.proofs.inner.of_radius.Statement.{statement}
 use Rattle.numbering.proofs.inner.of_radius.Tie as tie
 

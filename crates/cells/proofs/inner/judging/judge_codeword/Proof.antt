@@ -1,16 +1,27 @@
--- `cells::inner::judging::judge_codeword` judges a codeword: one that names a point is sound; one past the end is
--- past the width or mended.
+-- `cells::inner::judging::judge_codeword` judges a codeword: one that names a point is sound; one whose shape is empty
+-- is unreadable; one past the end is past the width, mended, or mended to an empty shape.
 use Prim.Native.Nat.{ℕ}
-use mathlib.Core.Path.{ap₂, _∙_}
+use mathlib.Core.Bool.{Bool}
+use mathlib.Core.List.{List}
+use mathlib.Core.Path.{_≡_, ap, ap₂, _∙_}
 use borrow.Author.Needs.{needs}
-use Rattle.numbering.proofs.OfRow.{total-of, usable-of, found-of}
+use Rattle.numbering.specs.Numbered.{IsOfRow, totalIn, namesIn}
+use Rattle.numbering.specs.declared.inner.Numbering.{Numbering}
+use Rattle.numbering.proofs.OfRow.{total-of, names-of, usable-of, found-of}
 use Rattle.tables.proofs.GoodRow.{row-lawful}
-use Rattle.tables.specs.Row.{lengthOf, radiusAt, shellTotal}
+use Rattle.tables.specs.Row.{lengthOf, radiusAt}
 use Rattle.rules.proofs.Shows.{total-positive}
-use Rattle.rules.specs.Judging.{judgeCodeword}
-use Rattle.cells.proofs.Judging.{codeword-sound, seen-as}
+use Rattle.rules.specs.Judging.{judgeCodeword, indexNames, judgeIn}
+use Rattle.cells.proofs.Judging.{codeword-sound, codeword-empty, seen-as}
 use Rattle.cells.proofs.inner.judging.judge_codeword.Statement.{statement}
 use Rattle.cells.proofs.inner.judging.judge_codeword.Tie as tie
+
+-- what is judged by the numbering of a row's shell is judged by the row
+by-row : {m : Numbering} {row : List ℕ} {k : ℕ} → IsOfRow m row k → (n : ℕ)
+    → judgeCodeword (namesIn m) (totalIn m) (m .radius .0) n ≡ judgeIn row k n
+by-row {m} {row} {k} of-row n =
+    ap (λ (names : ℕ → Bool). judgeCodeword names (totalIn m) (m .radius .0) n) (names-of of-row)
+    ∙ ap₂ (λ (total r : ℕ). judgeCodeword (indexNames row k) total r n) (total-of of-row) (of-row .is-radius)
 
 seek-requires : tie.Need-seek-requires
 seek-requires c κs = let a = c .before .before .before in usable-of (c .before .of-row .ensures) (a .pre .0 .row-good .radius-usable (a .args .number) (a .pre .1))
@@ -22,29 +33,42 @@ judge-past-requires c κs =
     let k = radiusAt row (a .args .number) in
     let of-row = c .before .before .before .before .before .of-row .ensures in
     let sought = rw (c .before .total .given .1) at (c .before .before .before .seek .ensures) in
-    let is-total = sought .1 ∙ total-of of-row in
-    let usable = a .pre .0 .row-good .radius-usable (a .args .number) (a .pre .1) in
-    (rw is-total (total-positive (row-lawful row) (lengthOf row) k (usable .length-from)), rw is-total (usable .points-to), rw (sought .1) (sought .0))
+    let usable = a .pre .0 .row-good .radius-usable (a .args .number) (a .pre .1) in (
+      usable-of of-row usable,
+      sought .1,
+      rw (sought .1 ∙ total-of of-row) (total-positive (row-lawful row) (lengthOf row) k (usable .length-from)),
+      rw (sought .1) (sought .0),
+    )
 
 returns : tie.Need-returns
 returns c =
     let a = c .before .before .before .before .before .before .before in
-    let row = a .args .row .now in
-    let k = radiusAt row (a .args .number) in
     let of-row = c .before .before .before .before .before .of-row .ensures in
+    let m = c .before .before .before .before .before .of-row .result in
     let sought = rw (c .before .found .given .1) at (c .before .before .before .seek .ensures) in
-    let below = rw (total-of of-row) at (sought .0) in
-    (rw (of-row .is-radius) (codeword-sound (shellTotal row k) k (a .args .n) below), rw (of-row .is-radius) (found-of of-row (sought .2)))
+    let k = of-row .is-radius in
+    (codeword-sound (namesIn m) (totalIn m) (m .radius .0) (a .args .n) (sought .0) (sought .1) ∙ by-row of-row (a .args .n), rw k (found-of of-row (sought .2)))
 
 returns-2 : tie.Need-returns-2
 returns-2 c =
+    let a = c .before .before .before .before .before .before .before in
+    let row = a .args .row .now in
+    let of-row = c .before .before .before .before .before .of-row .ensures in
+    let m = c .before .before .before .before .before .of-row .result in
+    let sought = rw (c .before .enum-told .given .1) at (c .before .before .before .seek .ensures) in
+    seen-as row (c .unseen .result) (c .unseen .ensures) tt
+    (codeword-empty (namesIn m) (totalIn m) (m .radius .0) (a .args .n) (sought .0) (sought .1) ∙ by-row of-row (a .args .n))
+
+returns-3 : tie.Need-returns-3
+returns-3 c =
     let a = c .before .before .before .before .before .before .before .before .before in
     let row = a .args .row .now in
     let of-row = c .before .before .before .before .before .before .before .of-row .ensures in
+    let m = c .before .before .before .before .before .before .before .of-row .result in
     let sought = rw (c .before .before .before .total .given .1) at (c .before .before .before .before .before .seek .ensures) in
     let past = c .before .judge-past .ensures in
-    seen-as row (c .unseen .result) (c .unseen .ensures) (past .1)
-    (past .0 ∙ ap₂ (λ (total k : ℕ). judgeCodeword total k (a .args .n)) (sought .1 ∙ total-of of-row) (of-row .is-radius))
+    seen-as row (c .unseen2 .result) (c .unseen2 .ensures) (past .1)
+    (past .0 ∙ ap (λ (total : ℕ). judgeCodeword (namesIn m) total (m .radius .0) (a .args .n)) (sought .1) ∙ by-row of-row (a .args .n))
 
 pub judge-codeword-spec : {M : Type 1} → statement M
 judge-codeword-spec =
@@ -54,7 +78,10 @@ judge-codeword-spec =
     seek-requires
     (λ c. search needs)
     (λ c. search needs)
+    (λ c κs. search needs)
+    (λ c. search needs)
     judge-past-requires
     (λ c κs. search needs)
     returns
-    returns-2)
+    returns-2
+    returns-3)

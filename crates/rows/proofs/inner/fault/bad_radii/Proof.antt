@@ -10,10 +10,10 @@ use Rattle.rows.proofs.inner.fault.bad_radii.Statement.{statement}
 use Rattle.rows.proofs.inner.fault.bad_radii.Tie as tie
 
 abbrev Inv-loop : tie.InvT-loop
-Inv-loop row number₀ number = (number ≤ 8) × (badRadii row number ≡ false)
+Inv-loop row most number₀ number = (number ≤ 8) × (badRadii row number ≡ false)
 
 abbrev μ-loop : tie.MeasureT-loop
-μ-loop row number₀ number = 8 - number
+μ-loop row most number₀ number = 8 - number
 
 loop-holds : tie.Need-loop-holds Inv-loop μ-loop
 unfolding badRadii
@@ -24,7 +24,7 @@ bad-radius-requires c κs = search needs
 
 returns : tie.Need-returns Inv-loop μ-loop
 returns c =
-    let a = c .before .before .before .before .before .args in
+    let a = c .before .before .before .before .before .before .args in
     let number = c .before .before .before .loop .number in
     sym (radius-bad (a .row .now) number 8 (omega arith) (sym (c .before .bad-radius .ensures) ∙ c .if1 .taken))
 
@@ -36,7 +36,7 @@ loop-less c = search needs
 
 loop-again : tie.Need-loop-again Inv-loop μ-loop
 loop-again c =
-    let a = c .before .before .before .before .before .args in
+    let a = c .before .before .before .before .before .before .args in
     let at = c .before .before .before .loop in
     (omega arith, radius-good (a .row .now) (at .number) (at .inv .1) (sym (c .before .bad-radius .ensures) ∙ c .if1 .left))
 
@@ -52,6 +52,7 @@ bad-radii-spec =
     (tie.spec
     Inv-loop
     μ-loop
+    (λ c κs. search needs)
     loop-holds
     bad-radius-requires
     returns

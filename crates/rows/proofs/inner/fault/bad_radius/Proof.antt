@@ -1,12 +1,11 @@
 -- `rows::inner::fault::bad_radius`: an unused position is held to 0, and a used one to the order and to the largest
--- radius.
+-- usable radius.
 use Prim.Native.Nat.{ℕ}
-use mathlib.Core.Path.{_≡_, sym, ap, ap₂, _∙_}
+use mathlib.Core.Path.{sym, ap, _∙_}
 use mathlib.Core.Bool.{not}
 use lib.Dec.{eqb, ltb}
 use native.Mathlib.Omega.{arith}
-use Rattle.tables.specs.Largest.{largestRadius}
-use Rattle.tables.proofs.Faults.{radius-above-largest, unused-says, disorder-says, used-says}
+use Rattle.tables.proofs.Faults.{unused-says, disorder-says, used-says}
 use borrow.Author.Needs.{needs}
 use Rattle.rows.proofs.inner.fault.bad_radius.Statement.{statement}
 use Rattle.rows.proofs.inner.fault.bad_radius.Tie as tie
@@ -30,24 +29,17 @@ returns-2 c =
     let a = c .before .before .before .before .before .args in
     disorder-says (a .row .now) (a .number) (omega arith) (sym (c .before .out-of-order .ensures) ∙ c .if2 .taken)
 
-length-requires : tie.Need-length-requires
-length-requires c κs = search needs
-
-largest-radius-requires : tie.Need-largest-radius-requires
-largest-radius-requires c κs = search needs
-
 radius-requires-2 : tie.Need-radius-requires-2
 radius-requires-2 c κs = search needs
 
 returns-3 : tie.Need-returns-3
 returns-3 c =
-    let st = c .before .before .before .before .before .before .before .before .before in
+    let st = c .before .before .before .before .before .before .before in
     let a = st .args in
-    let l : c .before .before .before .length .result .0 ≡ _ = c .before .before .before .length .ensures in
-    ap₂ ltb (c .before .before .largest-radius .ensures ∙ ap largestRadius l) (c .before .radius2 .ensures .0)
-    ∙ radius-above-largest (a .row .now) _ (st .pre .2) (st .pre .3)
+    ap (ltb (a .most)) (c .before .radius2 .ensures .0)
+    ∙ st .pre .1 _
     ∙ used-says (a .row .now) (a .number) (omega arith)
-    (sym (c .before .before .before .before .before .out-of-order .ensures) ∙ c .before .before .before .before .if2 .left)
+    (sym (c .before .before .before .out-of-order .ensures) ∙ c .before .before .if2 .left)
 
 pub bad-radius-spec : {M : Type 1} → statement M
 bad-radius-spec =
@@ -58,7 +50,5 @@ bad-radius-spec =
     returns
     out-of-order-requires
     returns-2
-    length-requires
-    largest-radius-requires
     radius-requires-2
     returns-3)

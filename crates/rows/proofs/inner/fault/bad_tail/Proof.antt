@@ -1,4 +1,4 @@
--- `rows::inner::fault::bad_tail`: a step of 0, no places, a selector above 1, or a last byte that is not 0.
+-- `rows::inner::fault::bad_tail`: a step of 0, no places, a selector above 2, or a last byte that is not 0.
 use Prim.Native.Nat.{ℕ}
 use mathlib.Core.Path.{ap}
 use mathlib.Core.Bool.{not, or-false}
@@ -35,7 +35,7 @@ returns-3 c =
     rw (
       le-ltb (stepOf (a .row .now)) 1 (omega arith),
       le-ltb (placesOf (a .row .now)) 1 (omega arith),
-      lt-ltb 1 (selectorOf (a .row .now)) (omega arith),
+      lt-ltb 2 (selectorOf (a .row .now)) (omega arith),
     )
 
 byte-requires : tie.Need-byte-requires
@@ -47,7 +47,7 @@ returns-4 c =
     rw (
       le-ltb (stepOf (a .row .now)) 1 (omega arith),
       le-ltb (placesOf (a .row .now)) 1 (omega arith),
-      le-ltb 1 (selectorOf (a .row .now)) (omega arith),
+      le-ltb 2 (selectorOf (a .row .now)) (omega arith),
       or-false (notZero (a .row .now) 15),
     )
     (ap (λ (b : ℕ). not (eqb b 0)) (c .byte .ensures .0))

@@ -2,7 +2,7 @@
 -- table: refusals 4, 4 and 11, and the buffer as it was; or the records of all places.
 use Prim.Native.Nat.{_*_}
 use mathlib.Core.List.{[]}
-use mathlib.Core.Path.{_≡_, refl, sym, ap, _∙_}
+use mathlib.Core.Path.{refl, sym, ap, _∙_}
 use native.Mathlib.Omega.{arith}
 use borrow.Author.Needs.{needs}
 use borrow.Author.Tests.{eq-eqb, ne-eqb}
