@@ -8,7 +8,7 @@
 #include <string.h>
 
 enum { ROOM = MOST_LENGTH + 1, GARBAGE = 0x5a }; /* the room for an output, or a record, that is too long */
-enum { LEAST_REFUSED = 300 };                    /* takes with each refusal, and empty shapes */
+enum { LEAST_REFUSED = 300 };                    /* takes with each refusal, empty shapes, and modes */
 enum { ITEM_REFUSAL, ITEM_ANSWER, ITEM_REASON, ITEM_DISTANCE, ITEM_NAMED = 1 };
 
 /* How often each call was compared, and how many of these comparisons were of refusals. */
@@ -24,6 +24,8 @@ static struct {
     uint64_t takes_refused[MOST_REFUSAL + 1]; /* with each number */
     uint64_t empty_points;                    /* refused with 15 */
     uint64_t empty_places;                    /* with the reason 15 */
+    uint64_t overflowing_places;              /* with the reason 6 */
+    uint64_t no_modes;                        /* refused with 16 */
 } compared;
 
 static void note(uint64_t *calls, int is_refused)
@@ -32,7 +34,7 @@ static void note(uint64_t *calls, int is_refused)
     compared.refused += is_refused != 0;
 }
 
-/* Every refusal of take must be among them, and 15 of point and of read. */
+/* Every refusal of take must be among them, 15 of point and of read, and 6 and 16 of read. */
 void print_compared(void)
 {
     const uint64_t refusals[] = {7, 4, 8, 9, 12};
@@ -41,6 +43,8 @@ void print_compared(void)
             fail("take", "a refusal that is hardly compared");
     if (compared.empty_points < LEAST_REFUSED || compared.empty_places < LEAST_REFUSED)
         fail("point or read", "empty shapes that are hardly compared");
+    if (compared.overflowing_places < LEAST_REFUSED || compared.no_modes < LEAST_REFUSED)
+        fail("read", "modes that are hardly compared");
     printf("%lu indices, %lu points, %lu vectors, ", compared.indices, compared.points, compared.vectors);
     printf("%lu takes, %lu runs, %lu places, %lu sent pages, ", compared.takes, compared.runs, compared.places, compared.pages);
     printf("%lu of all these refused, or with a refused take\n", compared.refused);
@@ -112,15 +116,16 @@ uint64_t agree_on_collect(const struct table *table, uint8_t *page, uint8_t *pag
 }
 
 /* Of an answer the number, the reason and the distance are compared too. */
-uint64_t agree_on_read(const struct table *table, const uint8_t *page, uint64_t size, uint64_t place, uint64_t out_length)
+uint64_t agree_on_read(uint64_t mode, const struct table *table, const uint8_t *page, uint64_t size, uint64_t place,
+                       uint64_t out_length)
 {
     int32_t one[ROOM], other[ROOM];
     uint64_t ours[ITEM_DISTANCE + 1];
     __builtin_memset(one, GARBAGE, sizeof one);
     __builtin_memset(other, GARBAGE, sizeof other);
-    const struct plain_reading plain = plain_read(table->bytes, table->size, page, size, place, other, out_length);
+    const struct plain_reading plain = plain_read(mode, table->bytes, table->size, page, size, place, other, out_length);
     for (uint64_t item = ITEM_REFUSAL; item <= ITEM_DISTANCE; item++)
-        ours[item] = probe_read(table->bytes, table->size, page, size, place, one, out_length, item);
+        ours[item] = probe_read(mode, table->bytes, table->size, page, size, place, one, out_length, item);
     hold("read", ours[ITEM_REFUSAL], plain.refusal, memcmp(one, other, sizeof one) == 0);
     if (plain.refusal == 0) {
         hold("answer of read", ours[ITEM_ANSWER], plain.answer, 1);
@@ -128,7 +133,9 @@ uint64_t agree_on_read(const struct table *table, const uint8_t *page, uint64_t 
         hold("distance of read", ours[ITEM_DISTANCE], plain.distance, 1);
     }
     note(&compared.places, plain.refusal != 0);
+    compared.no_modes += plain.refusal == 16;
     compared.empty_places += plain.refusal == 0 && plain.reason == 15;
+    compared.overflowing_places += plain.refusal == 0 && plain.reason == 6;
     return plain.refusal;
 }
 

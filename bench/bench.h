@@ -88,7 +88,8 @@ uint32_t agree_on_quantize(const struct table *table, const struct coefficients 
 uint64_t agree_on_take(const struct table *table, uint8_t *page, uint8_t *page_of_plain, uint64_t size, const struct record *in);
 uint64_t agree_on_collect(const struct table *table, uint8_t *page, uint8_t *page_of_plain, uint64_t size, const uint8_t *run,
                           uint64_t length);
-uint64_t agree_on_read(const struct table *table, const uint8_t *page, uint64_t size, uint64_t place, uint64_t out_length);
+uint64_t agree_on_read(uint64_t mode, const struct table *table, const uint8_t *page, uint64_t size, uint64_t place,
+                       uint64_t out_length);
 uint64_t agree_on_send(const struct table *table, const float *run, uint64_t run_length, uint64_t buffer_length);
 void print_compared(void);
 
@@ -112,10 +113,10 @@ uint64_t empty_take_item(const uint8_t *table, uint64_t table_length, uint8_t *p
                          uint64_t record_length, uint64_t which);
 uint64_t empty_collect(const uint8_t *table, uint64_t table_length, uint8_t *page, uint64_t page_length, const uint8_t *bytes,
                        uint64_t bytes_length);
-struct plain_reading empty_read(const uint8_t *table, uint64_t table_length, const uint8_t *page, uint64_t page_length, uint64_t place,
-                                int32_t *out, uint64_t out_length);
-uint64_t empty_read_item(const uint8_t *table, uint64_t table_length, const uint8_t *page, uint64_t page_length, uint64_t place,
-                         int32_t *out, uint64_t out_length, uint64_t which);
+struct plain_reading empty_read(uint64_t mode, const uint8_t *table, uint64_t table_length, const uint8_t *page,
+                                uint64_t page_length, uint64_t place, int32_t *out, uint64_t out_length);
+uint64_t empty_read_item(uint64_t mode, const uint8_t *table, uint64_t table_length, const uint8_t *page, uint64_t page_length,
+                         uint64_t place, int32_t *out, uint64_t out_length, uint64_t which);
 struct plain_sending empty_send(const uint8_t *table, uint64_t table_length, const float *run, uint64_t run_length, uint8_t *buffer,
                                 uint64_t buffer_length);
 uint64_t empty_send_item(const uint8_t *table, uint64_t table_length, const float *run, uint64_t run_length, uint8_t *buffer,
@@ -140,6 +141,7 @@ void bench_points(void);
 void bench_vectors(const struct setting *with);
 void bench_takes(const struct setting *with);
 void bench_reads(const struct setting *with);
+void bench_overflowing_reads(const struct setting *with);
 void bench_sends(const struct setting *with);
 void bench_programs(char **arguments);
 

@@ -7,14 +7,16 @@
 
 enum { TABLES_OF_FAULT = 50, TABLES = 1000, VECTORS_OF_TABLE = 20, RECORDS_OF_TABLE = 50, PAGES = 200 };
 
-/* Every call that is lent a bad table is refused, whatever else is lent. */
+/* Every call that is lent a bad table is refused, whatever else is lent; 16 comes before 7. */
 static void try_bad_table(enum fault fault)
 {
     static uint8_t pages[2][CELL_SIZE];
     const struct table table = bad_table_by_chance(fault);
     const struct coefficients in = {.length = table.bytes[AT_LENGTH] % (MOST_LENGTH + 1)};
     const struct record record = {.length = RECORD_SIZE};
-    if (agree_on_quantize(&table, &in, RECORD_SIZE) != 7 || agree_on_read(&table, pages[0], CELL_SIZE, 0, in.length) != 7 ||
+    if (agree_on_quantize(&table, &in, RECORD_SIZE) != 7 ||
+        agree_on_read(chance_below(MODES), &table, pages[0], CELL_SIZE, 0, in.length) != 7 ||
+        agree_on_read(no_mode_by_chance(), &table, pages[0], CELL_SIZE, 0, in.length) != 16 ||
         agree_on_take(&table, pages[0], pages[1], CELL_SIZE, &record) != 7 || agree_on_send(&table, in.values, 1, RECORD_SIZE) != 7)
         fail("a bad table", "not refused");
 }
@@ -31,7 +33,7 @@ static void try_vectors(void)
     }
 }
 
-/* What arrives at a place, and what is then read there. */
+/* What arrives at a place, and what is read there in each mode before and then. */
 static void try_page(void)
 {
     static struct page page;
@@ -43,9 +45,11 @@ static void try_page(void)
         const struct arrival arrival = arrival_by_chance(&table, &page, place);
         struct record record = {.length = arrival.length};
         __builtin_memcpy(record.bytes, arrival.bytes, RECORD_SIZE);
-        agree_on_read(&table, page.lent[0] + GUARDS, page.size, place, row_at(&table, place)[AT_LENGTH]);
+        for (uint64_t mode = 0; mode < MODES; mode++)
+            agree_on_read(mode, &table, page.lent[0] + GUARDS, page.size, place, row_at(&table, place)[AT_LENGTH]);
         agree_on_take(&table, page.lent[0] + GUARDS, page.lent[1] + GUARDS, page.size, &record);
-        agree_on_read(&table, page.lent[1] + GUARDS, page.size, place, row_at(&table, place)[AT_LENGTH]);
+        for (uint64_t mode = 0; mode < MODES; mode++)
+            agree_on_read(mode, &table, page.lent[1] + GUARDS, page.size, place, row_at(&table, place)[AT_LENGTH]);
     }
 }
 

@@ -50,10 +50,10 @@ uint64_t empty_collect(const uint8_t *table, uint64_t table_length, uint8_t *pag
     return 0;
 }
 
-struct plain_reading empty_read(const uint8_t *table, uint64_t table_length, const uint8_t *page, uint64_t page_length, uint64_t place,
-                                int32_t *out, uint64_t out_length)
+struct plain_reading empty_read(uint64_t mode, const uint8_t *table, uint64_t table_length, const uint8_t *page,
+                                uint64_t page_length, uint64_t place, int32_t *out, uint64_t out_length)
 {
-    (void)table, (void)table_length, (void)page, (void)page_length, (void)place, (void)out, (void)out_length;
+    (void)mode, (void)table, (void)table_length, (void)page, (void)page_length, (void)place, (void)out, (void)out_length;
     return (struct plain_reading){0};
 }
 
@@ -71,9 +71,10 @@ uint64_t empty_send_item(const uint8_t *table, uint64_t table_length, const floa
     return 0;
 }
 
-uint64_t empty_read_item(const uint8_t *table, uint64_t table_length, const uint8_t *page, uint64_t page_length, uint64_t place,
-                         int32_t *out, uint64_t out_length, uint64_t which)
+uint64_t empty_read_item(uint64_t mode, const uint8_t *table, uint64_t table_length, const uint8_t *page, uint64_t page_length,
+                         uint64_t place, int32_t *out, uint64_t out_length, uint64_t which)
 {
-    (void)table, (void)table_length, (void)page, (void)page_length, (void)place, (void)out, (void)out_length, (void)which;
+    (void)mode, (void)table, (void)table_length, (void)page, (void)page_length, (void)place, (void)out, (void)out_length;
+    (void)which;
     return 0;
 }

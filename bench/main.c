@@ -27,6 +27,7 @@ int main(int words, char **arguments)
         bench_takes(&settings[i]);
         bench_reads(&settings[i]);
     }
+    bench_overflowing_reads(&settings[0]);
     for (int i = 0; i < SETTINGS; i++)
         bench_sends(&settings[i]);
     bench_sends(&long_page);

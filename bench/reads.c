@@ -1,19 +1,20 @@
 /* Reading: places by chance. Of 16 places one is missing, one contested and one unreadable, two are mended where a
-   shell of the row has a codeword past the end, and the others are sound. */
+   shell of the row has a codeword past the end, and the others are sound. The two are read in mending mode, and the
+   others in plain mode. Then the two alone, in plain mode. */
 
 #include "bench.h"
 
 #include <stdio.h>
 
-typedef struct plain_reading read_call(const uint8_t *table, uint64_t table_length, const uint8_t *page, uint64_t page_length,
-                                       uint64_t place, int32_t *out, uint64_t out_length);
-typedef uint64_t read_item_call(const uint8_t *table, uint64_t table_length, const uint8_t *page, uint64_t page_length, uint64_t place,
-                                int32_t *out, uint64_t out_length, uint64_t which);
+typedef struct plain_reading read_call(uint64_t mode, const uint8_t *table, uint64_t table_length, const uint8_t *page,
+                                       uint64_t page_length, uint64_t place, int32_t *out, uint64_t out_length);
+typedef uint64_t read_item_call(uint64_t mode, const uint8_t *table, uint64_t table_length, const uint8_t *page,
+                                uint64_t page_length, uint64_t place, int32_t *out, uint64_t out_length, uint64_t which);
 
 enum { KINDS = 16, ITEM_ANSWER = 1 };
 
 static const struct setting *setting; /* the one that is measured */
-static uint64_t places[INPUTS];
+static uint64_t places[INPUTS], modes[INPUTS];
 static uint8_t page[MOST_PLACES * CELL_SIZE];
 
 static void run_read(any_call *call, uint64_t inputs)
@@ -21,7 +22,7 @@ static void run_read(any_call *call, uint64_t inputs)
     static int32_t out[MOST_LENGTH];
     read_call *const read_it = (read_call *)call;
     for (uint64_t i = 0; i < inputs; i++)
-        read_it(setting->table.bytes, setting->table.size, page, setting->places * CELL_SIZE, places[i], out,
+        read_it(modes[i], setting->table.bytes, setting->table.size, page, setting->places * CELL_SIZE, places[i], out,
                 row_for(setting, places[i])[AT_LENGTH]);
 }
 
@@ -30,7 +31,7 @@ static void run_read_item(any_call *call, uint64_t inputs)
     static int32_t out[MOST_LENGTH];
     read_item_call *const read_it = (read_item_call *)call;
     for (uint64_t i = 0; i < inputs; i++)
-        read_it(setting->table.bytes, setting->table.size, page, setting->places * CELL_SIZE, places[i], out,
+        read_it(modes[i], setting->table.bytes, setting->table.size, page, setting->places * CELL_SIZE, places[i], out,
                 row_for(setting, places[i])[AT_LENGTH], ITEM_ANSWER);
 }
 
@@ -46,6 +47,11 @@ static void mend(const uint8_t *row, uint8_t *record)
     set_two_bytes(record + AT_CODEWORD + 2, last & 0xffff);
 }
 
+static int is_mended(uint64_t place)
+{
+    return place % KINDS == 3 || place % KINDS == 4;
+}
+
 static void fill_cell(uint64_t place)
 {
     const uint64_t kind = place % KINDS;
@@ -56,24 +62,52 @@ static void fill_cell(uint64_t place)
         sound_record(setting, place, cell + AT_RECORD);
     if (kind == 2)
         cell[AT_RECORD + AT_RADIUS_NUMBER] = MOST_RADII;
-    if (kind == 3 || kind == 4)
+    if (is_mended(place))
         mend(row_for(setting, place), cell + AT_RECORD);
+}
+
+/* The two modes of each place agree. */
+static void fill_page_of(const struct setting *with)
+{
+    setting = with;
+    for (uint64_t place = 0; place < setting->places; place++) {
+        const uint64_t length = row_for(setting, place)[AT_LENGTH];
+        fill_cell(place);
+        for (uint64_t mode = 0; mode < MODES; mode++)
+            if (agree_on_read(mode, &setting->table, page, setting->places * CELL_SIZE, place, length) != 0)
+                fail("read", "refused");
+    }
+}
+
+static void measure_reads(const char *what)
+{
+    char name[NAME];
+    snprintf(name, sizeof name, "%s, %s", what, setting->name);
+    measure((struct rivals){name,
+                            {run_read_item, (any_call *)probe_read, (any_call *)empty_read_item},
+                            {run_read, (any_call *)plain_read, (any_call *)empty_read},
+                            COUNTED});
 }
 
 void bench_reads(const struct setting *with)
 {
-    char what[NAME];
-    setting = with;
-    for (uint64_t place = 0; place < setting->places; place++) {
-        fill_cell(place);
-        if (agree_on_read(&setting->table, page, setting->places * CELL_SIZE, place, row_for(setting, place)[AT_LENGTH]) != 0)
-            fail("read", "refused");
-    }
-    for (uint64_t i = 0; i < INPUTS; i++)
+    fill_page_of(with);
+    for (uint64_t i = 0; i < INPUTS; i++) {
         places[i] = chance_below(setting->places);
-    snprintf(what, sizeof what, "read, %s", setting->name);
-    measure((struct rivals){what,
-                            {run_read_item, (any_call *)probe_read, (any_call *)empty_read_item},
-                            {run_read, (any_call *)plain_read, (any_call *)empty_read},
-                            COUNTED});
+        modes[i] = is_mended(places[i]) ? MENDING_MODE : PLAIN_MODE;
+    }
+    measure_reads("read");
+}
+
+/* Places that overflow, in plain mode. */
+void bench_overflowing_reads(const struct setting *with)
+{
+    fill_page_of(with);
+    for (uint64_t i = 0; i < INPUTS; i++) {
+        do
+            places[i] = chance_below(setting->places);
+        while (!is_overflowing(&setting->table, places[i], page + places[i] * CELL_SIZE));
+        modes[i] = PLAIN_MODE;
+    }
+    measure_reads("read past the end");
 }

@@ -91,6 +91,7 @@ static void try_run(const struct asked *asked, uint64_t size, const struct recor
 static void try_cell(const struct asked *asked)
 {
     const uint64_t size = beside(CELL_SIZE * (asked->places > 0 ? asked->places : 1));
+    const uint64_t mode = chance_below(8) ? chance_below(MODES) : no_mode_by_chance();
     struct record in = {.length = beside(RECORD_SIZE)};
     set_two_bytes(in.bytes + AT_PLACE, asked->place & 0xffff);
     if (asked->place < asked->places) {
@@ -103,7 +104,7 @@ static void try_cell(const struct asked *asked)
     in.bytes[chance_below(RECORD_SIZE)] ^= (uint8_t)chance_below(2);
     agree_on_take(&asked->table, pages[0], pages[1], size, &in);
     try_run(asked, size, &in);
-    agree_on_read(&asked->table, pages[0], size, asked->place, beside(asked->length));
+    agree_on_read(mode, &asked->table, pages[0], size, asked->place, beside(asked->length));
 }
 
 void compare_calls(void)

@@ -49,9 +49,9 @@ enum {
 
    The call gives 0, and in the page the cell of the record's place has gone by the page rule and no other byte has
    changed. Or the call gives the number of the first check that fails, in the order 7, 4, 8, 9, 12, and every byte of
-   the page is as it was. The radius number and the codeword of the record are not judged. The bytes of all three may be
-   any, and so may their lengths, which are in bytes. A buffer of length 0 may have any pointer, a null pointer too. The
-   three buffers must not overlap. */
+   the page is as it was. The radius number and the codeword of the record are not judged, and nothing is mended: a mode
+   is a matter of reading alone. The bytes of all three may be any, and so may their lengths, which are in bytes. A
+   buffer of length 0 may have any pointer, a null pointer too. The three buffers must not overlap. */
 uint32_t aldrynja_take(const uint8_t *table, size_t table_length, uint8_t *page, size_t page_length,
                        const uint8_t *record, size_t record_length);
 

@@ -84,7 +84,8 @@ static struct plain_reading zeros(uint32_t answer, uint32_t reason, uint64_t len
     return (struct plain_reading){0, answer, reason, 0};
 }
 
-static struct plain_reading look_at_held(const uint8_t *row, const uint8_t *record, int32_t *out)
+/* The mode is 0 or 1. */
+static struct plain_reading look_at_held(uint64_t mode, const uint8_t *row, const uint8_t *record, int32_t *out)
 {
     const uint64_t length = row[AT_LENGTH], number = record[AT_RADIUS_NUMBER];
     const uint64_t index = (uint64_t)pair_at(record + AT_CODEWORD) << 16 | pair_at(record + AT_CODEWORD + 2);
@@ -95,13 +96,18 @@ static struct plain_reading look_at_held(const uint8_t *row, const uint8_t *reco
     if (index >= power)
         return zeros(UNREADABLE, 14, length, out);
     const int is_sound = index < total;
+    if (!is_sound && mode == PLAIN_MODE) {
+        __builtin_memset(out, 0, length * sizeof *out);
+        return (struct plain_reading){0, UNREADABLE, 6, (uint32_t)(index - total)};
+    }
     if (!plain_unrank(row[AT_SELECTOR], length, radius, is_sound ? index : index - power / 2, out))
         return zeros(UNREADABLE, 15, length, out);
     return (struct plain_reading){0, is_sound ? SOUND : MENDED, 0, is_sound ? 0 : (uint32_t)(index - total)};
 }
 
 /* Refusal 12, or what the cell shows, with its point or zeros in `out`. */
-struct plain_reading plain_look(const uint8_t *row, uint64_t row_number, const uint8_t *cell, uint64_t place, int32_t *out)
+struct plain_reading plain_look(uint64_t mode, const uint8_t *row, uint64_t row_number, const uint8_t *cell, uint64_t place,
+                                int32_t *out)
 {
     switch (cell[AT_STATE]) {
     case STATE_EMPTY:
@@ -110,7 +116,7 @@ struct plain_reading plain_look(const uint8_t *row, uint64_t row_number, const u
         return zeros(CONTESTED, 0, row[AT_LENGTH], out);
     case STATE_HELD:
         if (pair_at(cell + AT_RECORD + AT_PLACE) == place && cell[AT_RECORD + AT_ROW] == row_number)
-            return look_at_held(row, cell + AT_RECORD, out);
+            return look_at_held(mode, row, cell + AT_RECORD, out);
         break;
     default:
         break;
@@ -118,10 +124,12 @@ struct plain_reading plain_look(const uint8_t *row, uint64_t row_number, const u
     return (struct plain_reading){.refusal = 12};
 }
 
-/* "read | 7, 8, 4, 12". */
-struct plain_reading plain_read(const uint8_t *table, uint64_t table_length, const uint8_t *page, uint64_t page_length, uint64_t place,
-                                int32_t *out, uint64_t out_length)
+/* "read | 16, 7, 8, 4, 12". */
+struct plain_reading plain_read(uint64_t mode, const uint8_t *table, uint64_t table_length, const uint8_t *page,
+                                uint64_t page_length, uint64_t place, int32_t *out, uint64_t out_length)
 {
+    if (mode >= MODES)
+        return (struct plain_reading){.refusal = 16};
     const struct survey survey = plain_survey(table, table_length, place);
     if (survey.places == 0)
         return (struct plain_reading){.refusal = 7};
@@ -130,5 +138,5 @@ struct plain_reading plain_read(const uint8_t *table, uint64_t table_length, con
     const uint8_t *row = table + survey.row * ROW_SIZE;
     if (page_length != CELL_SIZE * survey.places || out_length != row[AT_LENGTH])
         return (struct plain_reading){.refusal = 4};
-    return plain_look(row, survey.row, page + CELL_SIZE * place, place, out);
+    return plain_look(mode, row, survey.row, page + CELL_SIZE * place, place, out);
 }

@@ -47,7 +47,7 @@ struct plain_pointing {
     uint64_t distance;
 };
 
-/* The refusal or 0; the answer, the reason of an unreadable one, and the distance of a mended one. */
+/* The refusal or 0; the answer, the reason of an unreadable one, and the distance of a mended one or of reason 6. */
 struct plain_reading {
     uint32_t refusal;
     uint32_t answer;
@@ -91,13 +91,14 @@ uint32_t plain_quantize(const uint8_t *table, uint64_t table_length, uint64_t pl
 
 /* page.c: of the calls, and with a table that has passed its check */
 int plain_claim(const struct row_ends *rows, uint8_t *page, const uint8_t *record);
-struct plain_reading plain_look(const uint8_t *row, uint64_t row_number, const uint8_t *cell, uint64_t place, int32_t *out);
+struct plain_reading plain_look(uint64_t mode, const uint8_t *row, uint64_t row_number, const uint8_t *cell, uint64_t place,
+                                int32_t *out);
 uint32_t plain_take(const uint8_t *table, uint64_t table_length, uint8_t *page, uint64_t page_length, const uint8_t *record,
                     uint64_t record_length);
 uint64_t plain_collect(const uint8_t *table, uint64_t table_length, uint8_t *page, uint64_t page_length, const uint8_t *bytes,
                        uint64_t bytes_length);
-struct plain_reading plain_read(const uint8_t *table, uint64_t table_length, const uint8_t *page, uint64_t page_length, uint64_t place,
-                                int32_t *out, uint64_t out_length);
+struct plain_reading plain_read(uint64_t mode, const uint8_t *table, uint64_t table_length, const uint8_t *page,
+                                uint64_t page_length, uint64_t place, int32_t *out, uint64_t out_length);
 
 /* send.c */
 struct plain_sending plain_send(const uint8_t *table, uint64_t table_length, const float *run, uint64_t run_length, uint8_t *buffer,

@@ -116,7 +116,7 @@ static void put_places(const uint8_t *table, uint64_t places, uint64_t *tally)
         for (; place >= end; end += pair_at(table + number * ROW_SIZE + AT_PLACES))
             number++;
         const uint8_t *row = table + number * ROW_SIZE;
-        const struct plain_reading reading = plain_look(row, number, page + place * CELL_SIZE, place, point);
+        const struct plain_reading reading = plain_look(MENDING_MODE, row, number, page + place * CELL_SIZE, place, point);
         put_line(place, row[AT_LENGTH], reading, point);
         tally[reading.answer]++;
     }

@@ -2,7 +2,7 @@
 
 #include "demo.h"
 
-/* It collects what came and reads every coefficient. It draws nothing where no value comes with the answer. */
+/* It collects what came and reads every coefficient, mending. It draws nothing where no value comes with the answer. */
 void receive(const struct capture *capture, struct bands *to)
 {
     uint8_t page[CELL_SIZE * PLACES] = {0};
@@ -10,6 +10,7 @@ void receive(const struct capture *capture, struct bands *to)
     for (uint64_t place = 0; place < PLACES; place++)
         for (uint64_t i = 0; i < length_at(place); i++) {
             const struct spot at = spot(place, i);
-            to->at[at.band][at.line][at.column] = probe_coefficient_value(demo_table.bytes, demo_table.size, page, sizeof page, place, i);
+            to->at[at.band][at.line][at.column] =
+                probe_coefficient_value(MENDING_MODE, demo_table.bytes, demo_table.size, page, sizeof page, place, i);
         }
 }

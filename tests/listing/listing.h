@@ -43,7 +43,6 @@ struct reading reading_of(const struct table *table, const struct gathering *fro
 uint64_t read_file(const char *path, uint8_t *to, uint64_t room);
 
 /* text/lines.c: the listing */
-void point_shown(struct reading reading, int32_t *point);
 void print_listing(const struct table *table, const struct gathering *from);
 
 /* cases/sender.c: a table of 4,096 places, and what is sent for a place of it */

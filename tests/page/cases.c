@@ -7,9 +7,9 @@ const char *const call_words[CALLS] = {"take ", "read ", "coefficient ", "tally 
 /* The lengths of the lists that refusals are: 7 names the row, and 12 of the tally the place. */
 static const uint8_t refusals[CALLS][MOST_REFUSAL + 1] = {
     [OF_TAKE] = {[7] = 2, [4] = 1, [8] = 1, [9] = 1, [12] = 1},
-    [OF_READ] = {[7] = 2, [8] = 1, [4] = 1, [12] = 1},
-    [OF_COEFFICIENT] = {[7] = 2, [8] = 1, [4] = 1, [13] = 1, [12] = 1},
-    [OF_TALLY] = {[7] = 2, [4] = 1, [12] = 2},
+    [OF_READ] = {[16] = 1, [7] = 2, [8] = 1, [4] = 1, [12] = 1},
+    [OF_COEFFICIENT] = {[16] = 1, [7] = 2, [8] = 1, [4] = 1, [13] = 1, [12] = 1},
+    [OF_TALLY] = {[16] = 1, [7] = 2, [4] = 1, [12] = 2},
 };
 
 static uint64_t read_next_number(struct text *text)
@@ -60,10 +60,10 @@ static void read_bits(struct text *text, struct page_case *to)
         malformed(text, "a value where there is none, or none where there is one");
 }
 
-/* A mended place alone has one. */
-static uint64_t read_distance(struct text *text, uint64_t word)
+/* A mended place has one, and one that is unreadable for reason 6. */
+static uint64_t read_distance(struct text *text, uint64_t word, uint64_t reason)
 {
-    if (word == MENDED)
+    if (word == MENDED || reason == 6)
         return read_next_number(text);
     read_word(text, " -");
     return 0;
@@ -74,7 +74,7 @@ static void read_reading(struct text *text, struct page_case *to)
 {
     to->expected.items[1] = read_one_of(text, reading_words, READINGS);
     to->expected.items[2] = read_next_number(text);
-    to->expected.items[3] = read_distance(text, to->expected.items[1]);
+    to->expected.items[3] = read_distance(text, to->expected.items[1], to->expected.items[2]);
     (to->call == OF_READ ? read_point : read_bits)(text, to);
 }
 
@@ -90,6 +90,7 @@ void read_case(struct text *text, struct page_case *to)
     typedef void read_rest(struct text *text, struct page_case *to);
     static read_rest *const answered[CALLS] = {read_page_after, read_reading, read_reading, read_counts};
     to->call = (enum of_call)read_one_of(text, call_words, CALLS);
+    to->mode = to->call == OF_TAKE ? 0 : read_number_field(text);
     read_table(text, &to->table);
     read_lent(text, to);
     to->bits = 0;

@@ -22,7 +22,7 @@ static void hold_take(const char *name, struct page_case *held)
 
 static void hold_read(const char *name, struct page_case *held)
 {
-    const struct question question = {&held->table, &held->page, held->place, held->number};
+    const struct question question = {held->mode, &held->table, &held->page, held->place, held->number};
     int32_t point[MOST_LENGTH];
     hold_list(name, read_place(&question, point), held->expected);
     for (uint64_t i = 0; held->expected.items[0] == 0 && i < held->number; i++)
@@ -32,7 +32,7 @@ static void hold_read(const char *name, struct page_case *held)
 
 static void hold_coefficient(const char *name, struct page_case *held)
 {
-    const struct question question = {&held->table, &held->page, held->place, held->number};
+    const struct question question = {held->mode, &held->table, &held->page, held->place, held->number};
     uint32_t bits;
     hold_list(name, coefficient(&question, &bits), held->expected);
     own_figure(name, bits, held->bits);
@@ -41,8 +41,8 @@ static void hold_coefficient(const char *name, struct page_case *held)
 
 static void hold_tally(const char *name, struct page_case *held)
 {
-    hold_list(name, tally(&held->table, &held->page), held->expected);
-    expect_tally(name, probe_tally, &held->table, &held->page, held->expected);
+    hold_list(name, tally(held->mode, &held->table, &held->page), held->expected);
+    expect_tally(name, probe_tally, held->mode, &held->table, &held->page, held->expected);
 }
 
 static void hold(struct text *text, const char *name)

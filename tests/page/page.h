@@ -11,6 +11,7 @@ enum of_call { OF_TAKE, OF_READ, OF_COEFFICIENT, OF_TALLY, CALLS };
 /* What a case lends, and what it expects. */
 struct page_case {
     enum of_call call;
+    uint64_t mode; /* but for take */
     struct table table;
     struct page page;       /* as it is before the call */
     struct arrival arrival; /* what take is lent */

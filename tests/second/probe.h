@@ -1,4 +1,4 @@
-/* The calls under test, as a sender or a slate would link them. Any archive that has these fourteen can be held to
+/* The calls under test, as a sender or a slate would link them. Any archive that has these fifteen can be held to
    the second program. The refusal numbers and the order of checks are those of docs/RULES.md, "Refusal numbers" and
    "Order of checks". */
 
@@ -30,9 +30,10 @@ uint32_t probe_quantize(const uint8_t *table, uint64_t table_length, uint64_t pl
 uint64_t probe_quantize_value(const uint8_t *table, uint64_t table_length, uint64_t place, const float *coefficients,
                               uint64_t coefficients_length, uint8_t *record, uint64_t record_length);
 
-/* Of the calls below, those with `which` answer a list and give its item of that number; an item past the end of
-   the list is 0. A refusal is the list of its number and what the rules name with it: the distance of 6, the row of 7,
-   and in the tally the place of 12. In send 11 names the place and then the coordinate. */
+/* Of the calls below, those with `which` answer a list and give its item of that number; an item past the end of the
+   list is 0. A refusal is the list of its number and what the rules name with it: the distance of 6, the row of 7, and
+   in the tally and in lines the place of 12. In send 11 names the place and then the coordinate. A mode is 0, plain, or
+   1, mending. */
 
 /* The list 0, and the point of the index in `out`; or refused 20, 1, 2, 3, 4, 6, 15, and `out` is as it was. */
 uint64_t probe_point(uint64_t selector, uint64_t length, uint64_t radius, uint64_t index, int32_t *out, uint64_t out_length,
@@ -47,21 +48,29 @@ uint64_t probe_collect(const uint8_t *table, uint64_t table_length, uint8_t *pag
                        uint64_t bytes_length);
 
 /* The list 0, answer, reason: the answers are sound, mended, missing, contested and unreadable, from 0 on; the reason
-   is 10, 14 or 15 where the place is unreadable, else 0. The distance of a mended place is the item behind these. `out`
-   has the point, or zeros. Or refused 7, 8, 4, 12, and `out` is as it was. */
-uint64_t probe_read(const uint8_t *table, uint64_t table_length, const uint8_t *page, uint64_t page_length, uint64_t place,
-                    int32_t *out, uint64_t out_length, uint64_t which);
+   is 10, 14, 6 or 15 where the place is unreadable, 6 in plain mode alone, else 0. The distance of a mended place, or
+   of one with reason 6, is the item behind these. `out` has the point, or zeros. Or refused 16, 7, 8, 4, 12, and `out`
+   is as it was. */
+uint64_t probe_read(uint64_t mode, const uint8_t *table, uint64_t table_length, const uint8_t *page, uint64_t page_length,
+                    uint64_t place, int32_t *out, uint64_t out_length, uint64_t which);
 
-/* The same list for one coefficient; or refused 7, 8, 4, 13, 12. */
-uint64_t probe_coefficient(const uint8_t *table, uint64_t table_length, const uint8_t *page, uint64_t page_length, uint64_t place,
-                           uint64_t coordinate, uint64_t which);
+/* The same list for one coefficient; or refused 16, 7, 8, 4, 13, 12. */
+uint64_t probe_coefficient(uint64_t mode, const uint8_t *table, uint64_t table_length, const uint8_t *page, uint64_t page_length,
+                           uint64_t place, uint64_t coordinate, uint64_t which);
 
 /* The value that comes with sound or mended; else positive zero. */
-float probe_coefficient_value(const uint8_t *table, uint64_t table_length, const uint8_t *page, uint64_t page_length, uint64_t place,
-                              uint64_t coordinate);
+float probe_coefficient_value(uint64_t mode, const uint8_t *table, uint64_t table_length, const uint8_t *page, uint64_t page_length,
+                              uint64_t place, uint64_t coordinate);
 
-/* The list 0, sound, mended, missing, contested, unreadable: how many places have each answer; or refused 7, 4, 12. */
-uint64_t probe_tally(const uint8_t *table, uint64_t table_length, const uint8_t *page, uint64_t page_length, uint64_t which);
+/* The list 0, sound, mended, missing, contested, unreadable: how many places have each answer; or refused 16, 7, 4,
+   12. */
+uint64_t probe_tally(uint64_t mode, const uint8_t *table, uint64_t table_length, const uint8_t *page, uint64_t page_length,
+                     uint64_t which);
+
+/* The list 0, the place to go on from, how many bytes were written: the lines of the listing from a place on, as many
+   as there are or as `out` has room for with 256 bytes each. Or refused 16, 7, 8, 4, 12, and `out` is as it was. */
+uint64_t probe_lines(uint64_t mode, const uint8_t *table, uint64_t table_length, const uint8_t *page, uint64_t page_length,
+                     uint64_t from, uint8_t *out, uint64_t out_length, uint64_t which);
 
 /* The list 0, and the records of all places in `buffer`; or refused 7, 4, 11, and `buffer` as it was. The run has
    the coefficients of all places in order. */

@@ -35,6 +35,7 @@ example =
       refusal-12-at = refl;
       refusal-13 = refl;
       refusal-15 = refl;
+      refusal-16 = refl;
       refusal-20 = refl;
       distance-named = refl;
       row-named = refl;

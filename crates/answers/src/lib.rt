@@ -34,6 +34,8 @@ pub enum Refusal {
     NoSuchCoordinate,
     // 15: an empty shape, the index names no point
     EmptyShape,
+    // 16: mode above 1
+    NoSuchMode,
     // 20: enumeration selector above 2
     NoSuchEnumeration,
 }
@@ -67,6 +69,7 @@ pub fn in_numbers(refusal: Refusal) -> Numbers
         Refusal::BadCellAt { place } => Numbers(12, place, 0, 1),
         Refusal::NoSuchCoordinate => Numbers(13, 0, 0, 0),
         Refusal::EmptyShape => Numbers(15, 0, 0, 0),
+        Refusal::NoSuchMode => Numbers(16, 0, 0, 0),
         Refusal::NoSuchEnumeration => Numbers(20, 0, 0, 0),
     }
 }

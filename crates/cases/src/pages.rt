@@ -1,5 +1,5 @@
-// The cases of the calls of the page. A line has two numbers for the call, then the size and the bytes of the page,
-// the size and the bytes of what arrives, and a table. A buffer for a point is lent full of nines.
+// The cases of the calls of the page. A line has the mode and two numbers for the call, then the size and the bytes of
+// the page, the size and the bytes of what arrives, and a table. A buffer for a point is lent full of nines.
 use crate::checks;
 use crate::coefficients::bytes;
 use crate::indices::coordinates;
@@ -15,19 +15,21 @@ use page::Reading;
 use page::Tallied;
 use page::Value;
 use page::Valued;
+use rules::Mode;
+use rules::Reason;
 
 // The letter tells the call.
 pub fn run(call: u8, numbers: &[u64], room: &mut [u8]) {
     let mut page = [0u8; 64];
-    let size = number(numbers, 2) as usize;
+    let size = number(numbers, 3) as usize;
     if size <= 64 {
         with_page(call, numbers, &mut page[..size], room);
     }
 }
 
 fn with_page(call: u8, numbers: &[u64], page: &mut [u8], room: &mut [u8]) {
-    copy(numbers, 3, page);
-    let first = 3 + page.len();
+    copy(numbers, 4, page);
+    let first = 4 + page.len();
     let mut arrived = [0u8; 64];
     let size = number(numbers, first) as usize;
     if size <= 64 {
@@ -74,14 +76,15 @@ fn made(
     table: &mut [u8],
 ) {
     checks::make(table, numbers, first);
-    let a = number(numbers, 0) as usize;
-    let b = number(numbers, 1) as usize;
+    let mode = number(numbers, 0) as usize;
+    let a = number(numbers, 1) as usize;
+    let b = number(numbers, 2) as usize;
     match call {
         b'T' => take(table, page, arrived),
         b'C' => collect(table, page, arrived),
-        b'R' => read(table, page, a, b),
-        b'V' => value(table, page, a, b),
-        _ => tally(table, page),
+        b'R' => read(mode, table, page, a, b),
+        b'V' => value(mode, table, page, a, b),
+        _ => tally(mode, table, page),
     }
 }
 
@@ -96,7 +99,7 @@ fn copy(numbers: &[u64], first: usize, out: &mut [u8])
     }
 }
 
-// Take 0 0: what the call says, and the page then.
+// Take 0 0 0: what the call says, and the page then.
 fn take(table: &[u8], page: &mut [u8], arrived: &[u8]) {
     match page::take(table, page, arrived) {
         Arrival::Taken => output::said(0),
@@ -106,23 +109,23 @@ fn take(table: &[u8], page: &mut [u8], arrived: &[u8]) {
     bytes(page);
 }
 
-// Collect 0 0: the number of refused takes, and the page then.
+// Collect 0 0 0: the number of refused takes, and the page then.
 fn collect(table: &[u8], page: &mut [u8], arrived: &[u8]) {
     output::said(page::collect(table, page, arrived) as u64);
     output::colon();
     bytes(page);
 }
 
-// Read P B: what the call says of place P with a buffer of B coordinates, and what these are then.
-fn read(table: &[u8], page: &[u8], place: usize, size: usize) {
+// Read M P B: what the call says in mode M of place P with a buffer of B coordinates, and what these are then.
+fn read(mode: usize, table: &[u8], page: &[u8], place: usize, size: usize) {
     let mut out = [9; 20];
     if size <= 20 {
-        read_into(table, page, place, &mut out[..size]);
+        read_into(mode, table, page, place, &mut out[..size]);
     }
 }
 
-fn read_into(table: &[u8], page: &[u8], place: usize, out: &mut [i32]) {
-    match page::read(table, page, place, out) {
+fn read_into(mode: usize, table: &[u8], page: &[u8], place: usize, out: &mut [i32]) {
+    match page::read(Mode(mode), table, page, place, out) {
         Reading::Answered(answer) => shown(answer),
         Reading::Refused(refusal) => output::refused(refusal),
     }
@@ -145,14 +148,23 @@ fn mended(distance: u64) {
     output::next(distance);
 }
 
-fn unreadable(reason: u32) {
+// The number of the reason, and the distance of reason 6.
+fn unreadable(reason: Reason) {
     output::answer(4);
-    output::next(reason as u64);
+    match reason {
+        Reason::NoSuchRadius => output::next(10),
+        Reason::TooWide => output::next(14),
+        Reason::PastEnd { distance } => {
+            output::next(6);
+            output::next(distance);
+        }
+        Reason::EmptyShape => output::next(15),
+    }
 }
 
-// Value P I: what the call says of coordinate I of place P.
-fn value(table: &[u8], page: &[u8], place: usize, coordinate: usize) {
-    match page::coefficient(table, page, place, coordinate) {
+// Value M P I: what the call says in mode M of coordinate I of place P.
+fn value(mode: usize, table: &[u8], page: &[u8], place: usize, coordinate: usize) {
+    match page::coefficient(Mode(mode), table, page, place, coordinate) {
         Valued::Answered(value) => carried(value),
         Valued::Refused(refusal) => output::refused(refusal),
     }
@@ -183,9 +195,9 @@ fn scaled(v: f32) {
     }
 }
 
-// Answers 0 0: the five counts of the tally.
-fn tally(table: &[u8], page: &[u8]) {
-    match page::tally(table, page) {
+// Answers M 0 0: the five counts of the tally in mode M.
+fn tally(mode: usize, table: &[u8], page: &[u8]) {
+    match page::tally(Mode(mode), table, page) {
         Tallied::Counted(counts) => {
             output::answered(counts.sound as u64);
             output::next(counts.mended as u64);

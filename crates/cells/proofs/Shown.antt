@@ -9,5 +9,5 @@ use Rattle.tables.specs.Row.{IsRow}
 use Rattle.cells.specs.Seen.{Sees}
 use Rattle.cells.specs.declared.inner.judging.Seen.{Seen}
 
-pub seen-shows : (row : List ℕ) (c : Cell) {seen : Seen} → IsRow row → Sees row c seen → Shows row (seen .judged)
-seen-shows row c is-row sees = rw (sees .is-judged) (judge-shows row (row-lawful row) (is-row .row-good) c)
+pub seen-shows : (mode : ℕ) (row : List ℕ) (c : Cell) {seen : Seen} → IsRow row → Sees mode row c seen → Shows row (seen .judged)
+seen-shows mode row c is-row sees = rw (sees .is-judged) (judge-shows mode row (row-lawful row) (is-row .row-good) c)

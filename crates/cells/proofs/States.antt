@@ -39,15 +39,15 @@ pub takes-else : (x : List ℕ) (c : Cell) → (c .state ≡ 0 → ⊥) → (c .
 unfolding takeCell
 takes-else x c a b = sym (by-state-else (c .state) _ (pick (sameBytes (c .bytes) x) c contestedCell) c a b)
 
-module _ (row : List ℕ) (c : Cell) where
-  pub judges-missing : c .state ≡ 0 → judged.Missing ≡ judge row c
+module _ (mode : ℕ) (row : List ℕ) (c : Cell) where
+  pub judges-missing : c .state ≡ 0 → judged.Missing ≡ judge mode row c
   unfolding judge
   judges-missing h = rw h refl
 
-  pub judges-held : c .state ≡ 1 → judgeRecord row (c .bytes) ≡ judge row c
+  pub judges-held : c .state ≡ 1 → judgeRecord mode row (c .bytes) ≡ judge mode row c
   unfolding judge
   judges-held h = rw h refl
 
-  pub judges-contested : (c .state ≡ 0 → ⊥) → (c .state ≡ 1 → ⊥) → judged.Contested ≡ judge row c
+  pub judges-contested : (c .state ≡ 0 → ⊥) → (c .state ≡ 1 → ⊥) → judged.Contested ≡ judge mode row c
   unfolding judge
-  judges-contested a b = sym (by-state-else (c .state) judged.Missing (judgeRecord row (c .bytes)) judged.Contested a b)
+  judges-contested a b = sym (by-state-else (c .state) judged.Missing (judgeRecord mode row (c .bytes)) judged.Contested a b)

@@ -20,7 +20,7 @@ Handed row (judged.Sound k n) found = FoundIn row k n found
 Handed row (judged.Mended k n d) found = Nowhere found
 Handed row judged.Missing found = Nowhere found
 Handed row judged.Contested found = Nowhere found
-Handed row (judged.Unreadable reason) found = Nowhere found
+Handed row (judged.Unreadable why) found = Nowhere found
 
 -- an answer that asks for nothing found
 abbrev pub NotSound : Judged → Type 0
@@ -28,9 +28,9 @@ NotSound (judged.Sound k n) = ⊥
 NotSound (judged.Mended k n d) = Unit {0}
 NotSound judged.Missing = Unit {0}
 NotSound judged.Contested = Unit {0}
-NotSound (judged.Unreadable reason) = Unit {0}
+NotSound (judged.Unreadable why) = Unit {0}
 
--- the answer of the cell c in its row, and what was found
-pub record Sees (row : List ℕ) (c : Cell) (seen : Seen) : Type 0 where
-  pub is-judged : seen .judged ≡ judge row c
+-- the answer of the cell c in its row, in this mode, and what was found
+pub record Sees (mode : ℕ) (row : List ℕ) (c : Cell) (seen : Seen) : Type 0 where
+  pub is-judged : seen .judged ≡ judge mode row c
   pub handed : Handed row (seen .judged) (seen .found)

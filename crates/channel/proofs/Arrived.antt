@@ -1,5 +1,5 @@
--- A record that holds a place's row, a radius number of that row and the index of a point of that shell, and that
--- is all that came for its place, is sound with that point. Of the row's enumeration only its laws are used.
+-- A record that holds a place's row, a radius number of that row and the index of a point of that shell, and that is
+-- all that came for its place, is sound with that point in each mode. Of the row's enumeration only its laws are used.
 use Prim.Native.Nat.{ℕ, _<_}
 use mathlib.Core.Path.{_≡_, sym, ap, ap₂, _∙_}
 use mathlib.Core.List.{List}
@@ -36,17 +36,18 @@ module _ (t : List ℕ) (good : Good t) (p : ℕ) (h : p < placesIn t) (number :
     named = row-lawful row .index-names (lengthFor t p) k q on;
   }
 
-  held-sound : (y : List ℕ) → Holds y p (rowOf t p) number codeword → judge row (heldCell y) ≡ judged.Sound k codeword
+  held-sound : (mode : ℕ) (y : List ℕ) → Holds y p (rowOf t p) number codeword → judge mode row (heldCell y) ≡ judged.Sound k codeword
   unfolding judge
-  held-sound y holds =
-      sym (record-judged row y (rw (holds .holds-radius-number) in-row))
-      ∙ ap₂ (λ (n c : ℕ). judgeIn row (radiusAt row n) c) (holds .holds-radius-number) (holds .holds-codeword)
-      ∙ sym (codeword-sound (indexNames row k) (shellTotal row k) k codeword (codeword-names .below) (codeword-names .named))
+  held-sound mode y holds =
+      sym (record-judged mode row y (rw (holds .holds-radius-number) in-row))
+      ∙ ap₂ (λ (n c : ℕ). judgeIn mode row (radiusAt row n) c) (holds .holds-radius-number) (holds .holds-codeword)
+      ∙ sym (codeword-sound mode (indexNames row k) (shellTotal row k) k codeword (codeword-names .below) (codeword-names .named))
 
   pub arrived-sound : (y : List ℕ) → Holds y p (rowOf t p) number codeword → (xs : List (List ℕ)) → OnlyCame t xs p y → SoundWith t (grown t xs) p q
   arrived-sound y holds xs all =
       let back = row-lawful row .point-of-index (lengthFor t p) k q on in
       record {
-        reads = grown-reads t good xs p h (judged.Sound k codeword) q (ap (judge row) (equal-cell t good xs p h y all) ∙ held-sound y holds) back;
+        reads = λ mode known.
+            grown-reads mode known t good xs p h (judged.Sound k codeword) q (ap (judge mode row) (equal-cell t good xs p h y all) ∙ held-sound mode y holds) back;
         exact = λ bytes i. rw back at (exact-shown t p (judged.Sound k codeword) codeword-names bytes i);
       }

@@ -25,9 +25,10 @@ use Rattle.rules.specs.Reading.{told, pointAt, carriedBy, readChecks, readSays,
 use Rattle.rules.specs.Tallying.{tallyChecks, tallyOf, tallySays}
 use Rattle.page.specs.Meanings.{takeMeaning, readMeaning, tallyMeaning}
 use Rattle.page.proofs.OneToOne.{take-one-to-one, read-one-to-one, coefficient-one-to-one, tally-one-to-one}
-use Rattle.report.specs.Calls.{startingWith, noRoom, linesFit, linesChecks, linesText, linesSays, lineSays, listedMeaning, linedMeaning}
+use Rattle.reporting.specs.Calls.{startingWith, noRoom, linesFit, linesChecks, linesText, linesSays, lineSays}
+use Rattle.report.specs.Meanings.{listedMeaning, linedMeaning}
 use Rattle.report.proofs.OneToOne.{listed-one-to-one, lined-one-to-one}
-use Rattle.channel.specs.Demand1.{withTable, pointConditions, quantizeConditions, sendConditions, takeConditions, readConditions, coefficientConditions, tallyConditions, linesConditions, Determined, Demand1}
+use Rattle.channel.specs.Demand1.{withTable, withMode, pointConditions, quantizeConditions, sendConditions, takeConditions, readConditions, coefficientConditions, tallyConditions, linesConditions, Determined, Demand1}
 use Rattle.channel.proofs.Conditions.{alike, point-alike, check-alike, quantize-alike, send-alike, take-alike, read-alike, coefficient-alike, tally-alike, lines-alike}
 use Rattle.channel.proofs.Refusing.{refusing, unchanged}
 
@@ -35,12 +36,12 @@ determined : {A : Type 0} (meaningOf : A → List ℕ) (says : List ℕ) → ((r
 determined meaningOf says same r r′ a b = same r r′ (a ∙ sym b)
 
 -- what is told of a place, after 0
-answers : List ℕ → List ℕ → ℕ → List ℕ
-answers t pg p = drop 1 (told (judgeAt t pg p))
+answers : ℕ → List ℕ → List ℕ → ℕ → List ℕ
+answers mode t pg p = drop 1 (told (judgeAt mode t pg p))
 
 -- what is told of a block of lines, after 0
-written : List ℕ → List ℕ → ℕ → ℕ → List ℕ
-written t pg p b = (p + linesFit t p b) ∷ length (linesText t pg p b) ∷ []
+written : ℕ → List ℕ → List ℕ → ℕ → ℕ → List ℕ
+written mode t pg p b = (p + linesFit t p b) ∷ length (linesText mode t pg p b) ∷ []
 
 pub demand-1 : Demand1
 unfolding answers written
@@ -68,23 +69,23 @@ demand-1 = record {
   take = λ t pg x. refusing [] (takeChecks t pg x) (withTable t (takeConditions t pg x)) refl refl (take-alike t pg x);
   take-unchanged = λ t pg x. unchanged [] (takeChecks t pg x) (takeInto pg x) pg;
   take-determined = λ t pg x. determined takeMeaning (takeSays t pg x) take-one-to-one;
-  read = λ t pg p out.
-      refusing (answers t pg p) (readChecks t pg p (length out)) (withTable t (readConditions t pg p (length out))) refl refl
-      (read-alike t pg p (length out));
-  read-unchanged = λ t pg p out. unchanged (answers t pg p) (readChecks t pg p (length out)) (pointAt t pg p) out;
-  read-determined = λ t pg p out. determined readMeaning (readSays t pg p out) read-one-to-one;
-  coefficient = λ t pg p i.
-      refusing (answers t pg p) (coefficientChecks t pg p i) (withTable t (coefficientConditions t pg p i)) refl refl (coefficient-alike t pg p i);
-  coefficient-none = λ t pg p i. unchanged (answers t pg p) (coefficientChecks t pg p i) (carriedBy (rowFor t p) (judgeAt t pg p) i) [];
-  coefficient-determined = λ t pg p i r r′ a b c d. coefficient-one-to-one r r′ (a ∙ sym c) (b ∙ sym d);
-  tally = λ t pg. refusing (tallyOf t pg) (tallyChecks t pg) (withTable t (tallyConditions t pg)) refl refl (tally-alike t pg);
-  tally-determined = λ t pg. determined tallyMeaning (tallySays t pg) tally-one-to-one;
-  lines = λ t pg p held.
-      refusing (written t pg p (length held)) (linesChecks t pg p (length held)) (withTable t (linesConditions t pg p (length held))) refl refl
-      (lines-alike t pg p (length held));
-  lines-unchanged = λ t pg p held.
-      unchanged (written t pg p (length held)) (linesChecks t pg p (length held)) (startingWith (linesText t pg p (length held)) held) held;
-  lines-determined = λ t pg p held. determined listedMeaning (linesSays t pg p held) listed-one-to-one;
+  read = λ mode t pg p out.
+      refusing (answers mode t pg p) (readChecks mode t pg p (length out)) (withMode mode t (readConditions t pg p (length out))) refl refl
+      (read-alike t mode pg p (length out));
+  read-unchanged = λ mode t pg p out. unchanged (answers mode t pg p) (readChecks mode t pg p (length out)) (pointAt mode t pg p) out;
+  read-determined = λ mode t pg p out. determined readMeaning (readSays mode t pg p out) read-one-to-one;
+  coefficient = λ mode t pg p i.
+      refusing (answers mode t pg p) (coefficientChecks mode t pg p i) (withMode mode t (coefficientConditions t pg p i)) refl refl (coefficient-alike t mode pg p i);
+  coefficient-none = λ mode t pg p i. unchanged (answers mode t pg p) (coefficientChecks mode t pg p i) (carriedBy (rowFor t p) (judgeAt mode t pg p) i) [];
+  coefficient-determined = λ mode t pg p i r r′ a b c d. coefficient-one-to-one r r′ (a ∙ sym c) (b ∙ sym d);
+  tally = λ mode t pg. refusing (tallyOf mode t pg) (tallyChecks mode t pg) (withMode mode t (tallyConditions t pg)) refl refl (tally-alike t mode pg);
+  tally-determined = λ mode t pg. determined tallyMeaning (tallySays mode t pg) tally-one-to-one;
+  lines = λ mode t pg p held.
+      refusing (written mode t pg p (length held)) (linesChecks mode t pg p (length held)) (withMode mode t (linesConditions t pg p (length held))) refl refl
+      (lines-alike t mode pg p (length held));
+  lines-unchanged = λ mode t pg p held.
+      unchanged (written mode t pg p (length held)) (linesChecks mode t pg p (length held)) (startingWith (linesText mode t pg p (length held)) held) held;
+  lines-determined = λ mode t pg p held. determined listedMeaning (linesSays mode t pg p held) listed-one-to-one;
   line = λ text held. refusing (length text ∷ []) (noRoom (length held) ∷ []) (noRoom (length held) ∷ []) refl refl (alike (noRoom (length held) ∷ []));
   line-unchanged = λ text held. unchanged (length text ∷ []) (noRoom (length held) ∷ []) (startingWith text held) held;
   line-determined = λ text held. determined linedMeaning (lineSays text held) lined-one-to-one;

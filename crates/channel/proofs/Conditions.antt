@@ -19,11 +19,12 @@ use Rattle.runs.specs.Run.{coordinatesIn}
 use Rattle.runs.specs.Sending.{runChecks, recordsLength, sendChecks}
 use Rattle.runs.proofs.Judging.{run-of-11}
 use Rattle.layout.specs.Layout.{cellAt}
-use Rattle.rules.specs.Taking.{pageCheck, foreignCheck, cellCheck, ownCellCheck, cellCheckAt, pageChecks, lookChecks, takeRest, takeChecks}
+use Rattle.rules.specs.Modes.{modeCheck}
+use Rattle.rules.specs.Taking.{pageCheck, foreignCheck, cellCheck, ownCellCheck, cellCheckAt, pageChecks, takeRest, takeChecks}
 use Rattle.rules.specs.Reading.{readRest, readChecks, coefficientRest, coefficientChecks}
 use Rattle.rules.specs.Tallying.{tallyRest, tallyChecks}
-use Rattle.report.specs.Calls.{noRoom, linesFit, linesRest, linesChecks}
-use Rattle.channel.specs.Demand1.{condition, withTable, pointConditions, quantizeConditions, sendConditions, takeConditions, readConditions, coefficientConditions, tallyConditions, linesConditions}
+use Rattle.reporting.specs.Calls.{noRoom, linesFit, linesRest, linesChecks}
+use Rattle.channel.specs.Demand1.{condition, withTable, withMode, pointConditions, quantizeConditions, sendConditions, takeConditions, readConditions, coefficientConditions, tallyConditions, linesConditions}
 
 -- the same number is said by both, whatever the answer
 pub record Alike (cs ds : List Check) : Type 0 where
@@ -53,6 +54,11 @@ grouped-last n cs of = record { said = λ answer. one-number-last answer n cs of
 by-table : {checks rest conditions : List Check} (t : List ℕ) → checks ≡ tableChecks t ++ rest → Alike rest conditions → Alike checks (withTable t conditions)
 by-table t is same = rw is (grouped 7 (tableChecks t) (table-of-7 t) same)
 
+-- and a mode before it
+by-mode : {checks rest conditions : List Check} (mode : ℕ) (t : List ℕ) → checks ≡ tableChecks t ++ rest → Alike rest conditions
+    → Alike (modeCheck mode ∷ checks) (withMode mode t conditions)
+by-mode mode t is same = behind (modeCheck mode) (by-table t is same)
+
 -- ---- the calls
 pub point-alike : (v l k n b : ℕ) → Alike (pointChecks v l k n b) (pointConditions v l k n b)
 point-alike v l k n b = behind _ (behind _ (behind _ (behind _ (behind _ (grouped 6 (pastEndCheck n (selectedBy v .total l k) ∷ []) (refl, tt) (alike (emptyCheck (selectedBy v) l k n ∷ [])))))))
@@ -68,7 +74,7 @@ module _ (t : List ℕ) where
   paged : (pg : List ℕ) (rest : List Check) → pageChecks t pg ++ rest ≡ tableChecks t ++ pageCheck t pg ∷ rest
   paged pg rest = append-assoc (tableChecks t) (pageCheck t pg ∷ []) rest
 
-  looked : (pg : List ℕ) (p : ℕ) (rest : List Check) → lookChecks t pg p ++ rest ≡ tableChecks t ++ placeCheck t p ∷ pageCheck t pg ∷ rest
+  looked : (pg : List ℕ) (p : ℕ) (rest : List Check) → (placeChecks t p ++ (pageCheck t pg ∷ [])) ++ rest ≡ tableChecks t ++ placeCheck t p ∷ pageCheck t pg ∷ rest
   looked pg p rest = append-assoc (placeChecks t p) (pageCheck t pg ∷ []) rest ∙ placed p (pageCheck t pg ∷ rest)
 
   pub quantize-alike : (p : ℕ) (w : List Float) (b : ℕ) → Alike (quantizeChecks t p w b) (withTable t (quantizeConditions t p w b))
@@ -90,23 +96,23 @@ module _ (t : List ℕ) where
       (grouped 4 (pageCheck t pg ∷ recordCheck (length x) ∷ []) (refl, (refl, tt))
       (alike (placeCheck t (placeIn x) ∷ foreignCheck t x ∷ ownCellCheck t pg x ∷ [])))
 
-  pub read-alike : (pg : List ℕ) (p b : ℕ) → Alike (readChecks t pg p b) (withTable t (readConditions t pg p b))
-  read-alike pg p b =
-      by-table t (looked pg p (readRest (rowFor t p) (rowOf t p) pg p b))
+  pub read-alike : (mode : ℕ) (pg : List ℕ) (p b : ℕ) → Alike (readChecks mode t pg p b) (withMode mode t (readConditions t pg p b))
+  read-alike mode pg p b =
+      by-mode mode t (looked pg p (readRest (rowFor t p) (rowOf t p) pg p b))
       (behind (placeCheck t p)
       (grouped 4 (pageCheck t pg ∷ lengthCheck b (lengthFor t p) ∷ []) (refl, (refl, tt)) (alike (cellCheck p (rowOf t p) (cellAt pg p) ∷ []))))
 
-  pub coefficient-alike : (pg : List ℕ) (p i : ℕ) → Alike (coefficientChecks t pg p i) (withTable t (coefficientConditions t pg p i))
-  coefficient-alike pg p i = by-table t (looked pg p (coefficientRest (rowFor t p) (rowOf t p) pg p i)) (alike (coefficientConditions t pg p i))
+  pub coefficient-alike : (mode : ℕ) (pg : List ℕ) (p i : ℕ) → Alike (coefficientChecks mode t pg p i) (withMode mode t (coefficientConditions t pg p i))
+  coefficient-alike mode pg p i = by-mode mode t (looked pg p (coefficientRest (rowFor t p) (rowOf t p) pg p i)) (alike (coefficientConditions t pg p i))
 
-  pub tally-alike : (pg : List ℕ) → Alike (tallyChecks t pg) (withTable t (tallyConditions t pg))
-  tally-alike pg =
-      by-table t (paged pg (tallyRest t pg))
+  pub tally-alike : (mode : ℕ) (pg : List ℕ) → Alike (tallyChecks mode t pg) (withMode mode t (tallyConditions t pg))
+  tally-alike mode pg =
+      by-mode mode t (paged pg (tallyRest t pg))
       (behind (pageCheck t pg) (grouped-last 12 (tallyRest t pg) (each-of (cellCheckAt t pg) 12 0 (placesIn t) (λ j. refl))))
 
-  pub lines-alike : (pg : List ℕ) (p b : ℕ) → Alike (linesChecks t pg p b) (withTable t (linesConditions t pg p b))
-  lines-alike pg p b =
-      by-table t (looked pg p (linesRest t pg p b))
+  pub lines-alike : (mode : ℕ) (pg : List ℕ) (p b : ℕ) → Alike (linesChecks mode t pg p b) (withMode mode t (linesConditions t pg p b))
+  lines-alike mode pg p b =
+      by-mode mode t (looked pg p (linesRest t pg p b))
       (behind (placeCheck t p)
       (grouped 4 (pageCheck t pg ∷ noRoom b ∷ []) (refl, (refl, tt))
       (grouped-last 12 (eachFrom (cellCheckAt t pg) p (linesFit t p b)) (each-of (cellCheckAt t pg) 12 p (linesFit t p b) (λ j. refl)))))

@@ -5,6 +5,7 @@ pub mod AnyOrder
 pub mod Reading
 pub mod ThreeCases
 pub mod Never12
+pub mod Lines
 pub mod ForeignRows
 pub mod PastEnd
 pub mod Values
@@ -19,5 +20,6 @@ pub mod Sending
 pub mod Numbering
 pub mod Records
 pub mod Answers
+pub mod BothModes
 pub mod Witness
 pub mod Demands

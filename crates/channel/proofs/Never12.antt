@@ -43,19 +43,22 @@ module _ (t : List ℕ) (xs : List (List ℕ)) where
         let place = past (λ f. omega (arith, f)) (size .1) in
         let row = past (λ f. omega (arith, f)) (place .1) in
         no-fault (table .0) (placeIn x) (place .0) (last (row .1));
-    read = λ p out said.
-        let table = past (λ f. omega (arith, f)) (demand-1 .read t (grown t xs) p out .exactly 11 .0 said) in
+    read = λ mode p out said.
+        let in-mode = past (λ f. omega (arith, f)) (demand-1 .read mode t (grown t xs) p out .exactly 11 .0 said) in
+        let table = past (λ f. omega (arith, f)) (in-mode .1) in
         let place = past (λ f. omega (arith, f)) (table .1) in
         let size = past (λ f. omega (arith, f)) (place .1) in
         no-fault (table .0) p (place .0) (last (size .1));
-    coefficient = λ p i said.
-        let table = past (λ f. omega (arith, f)) (demand-1 .coefficient t (grown t xs) p i .exactly 11 .0 said) in
+    coefficient = λ mode p i said.
+        let in-mode = past (λ f. omega (arith, f)) (demand-1 .coefficient mode t (grown t xs) p i .exactly 11 .0 said) in
+        let table = past (λ f. omega (arith, f)) (in-mode .1) in
         let place = past (λ f. omega (arith, f)) (table .1) in
         let size = past (λ f. omega (arith, f)) (place .1) in
         let coordinate = past (λ f. omega (arith, f)) (size .1) in
         no-fault (table .0) p (place .0) (last (coordinate .1));
-    tally = λ said.
-        let table = past (λ f. omega (arith, f)) (demand-1 .tally t (grown t xs) .exactly 11 .0 said) in
+    tally = λ mode said.
+        let in-mode = past (λ f. omega (arith, f)) (demand-1 .tally mode t (grown t xs) .exactly 11 .0 said) in
+        let table = past (λ f. omega (arith, f)) (in-mode .1) in
         let size = past (λ f. omega (arith, f)) (table .1) in
         no-faults (table .0) (last (size .1));
   }

@@ -20,13 +20,14 @@ use Rattle.rules.specs.Judging.{judgeAt, answerNumber, reasonOrDistance, shown}
 use Rattle.rules.specs.Reading.{told}
 use Rattle.rules.specs.declared.Judged.{Judged}
 use Rattle.rules.specs.declared.Judged.the-variants as judged
+use Rattle.rules.specs.Modes.{mending}
 use Rattle.rules.specs.Taking.{empty, after, grown, partsOf, AllEqual}
 use Rattle.rules.specs.Tallying.{answerAt, tallyOf}
 use Rattle.rules.proofs.Claims.{Claims, claim-is}
 use Rattle.rules.proofs.Counts.{first-alone}
 use Rattle.rules.proofs.Grown.{grown-takes-all}
-use Rattle.text.specs.Text.{lastText}
-use Rattle.report.specs.Listing.{lineAt, linesFrom, lastLine, listed}
+use Rattle.wording.specs.Text.{lastText}
+use Rattle.reporting.specs.Listing.{lineAt, linesFrom, lastLine, listed}
 use Rattle.channel.specs.Demand3.{SoundWith}
 use Rattle.channel.specs.Sending.{AllArrived, sentPoint, ShownWhole, soundLine, ListedWhole, ArrivesAsSent, SentWhole}
 use Rattle.channel.proofs.Reading.{grown-reads}
@@ -40,26 +41,26 @@ sound-field (judged.Sound k n) e = refl
 sound-field (judged.Mended k n d) e = absurd (omega arith)
 sound-field judged.Missing e = refl
 sound-field judged.Contested e = refl
-sound-field (judged.Unreadable reason) e = absurd (omega arith)
+sound-field (judged.Unreadable why) e = absurd (omega arith)
 
--- a place that is sound with a point is told as sound, and that point is shown
+-- a place that is sound with a point is told as sound in mending mode too, and that point is shown
 record ToldSound (t pg : List ℕ) (p : ℕ) (q : List ℤ) : Type 0 where
-  pub sound : answerNumber (judgeAt t pg p) ≡ 0
-  pub no-field : reasonOrDistance (judgeAt t pg p) ≡ 0
-  pub point : shown (rowFor t p) (judgeAt t pg p) ≡ q
+  pub sound : answerNumber (judgeAt mending t pg p) ≡ 0
+  pub no-field : reasonOrDistance (judgeAt mending t pg p) ≡ 0
+  pub point : shown (rowFor t p) (judgeAt mending t pg p) ≡ q
 
 sound-told : (t : List ℕ) → Good t → (xs : List (List ℕ)) (p : ℕ) → p < placesIn t → (q : List ℤ) → SoundWith t (grown t xs) p q → ToldSound t (grown t xs) p q
 sound-told t good xs p h q sound =
-    let j = judgeAt t (grown t xs) p in
+    let j = judgeAt mending t (grown t xs) p in
     let out = replicate (lengthFor t p) (pos 0) in
     let long : length out ≡ lengthFor t p = length-replicate (lengthFor t p) (pos 0) in
-    let reads = grown-reads t good xs p h j (shown (rowFor t p) j) refl refl in
-    let says : told j ≡ 0 ∷ 0 ∷ 0 ∷ [] = sym (reads .read-says out long) ∙ sound .reads .read-says out long in
+    let reads = grown-reads mending refl t good xs p h j (shown (rowFor t p) j) refl refl in
+    let says : told j ≡ 0 ∷ 0 ∷ 0 ∷ [] = sym (reads .read-says out long) ∙ sound .reads mending refl .read-says out long in
     let is : answerNumber j ≡ 0 = ap (λ (ns : List ℕ). getD ns 1 0) says in
     record {
       sound = is;
       no-field = sound-field j is;
-      point = sym (reads .read-leaves out long) ∙ sound .reads .read-leaves out long;
+      point = sym (reads .read-leaves out long) ∙ sound .reads mending refl .read-leaves out long;
     }
 
 -- ---- the records of a run that send accepts
@@ -108,14 +109,14 @@ module _ (t : List ℕ) (run : List Float) (held : List ℕ) (a : AcceptedRun t 
       place-told : ToldSound t (grown t xs) p (sentPoint t run p)
       place-told = sound-told t (a .good) xs p h (sentPoint t run p) place-sound
 
-      line-sound : lineAt t (grown t xs) p ≡ soundLine t run p
+      line-sound : lineAt mending t (grown t xs) p ≡ soundLine t run p
       line-sound = rw (place-told .sound, place-told .no-field, place-told .point) refl
 
-    lines-sound : linesFrom t (grown t xs) 0 (placesIn t) ≡ joined (soundLine t run) 0 (placesIn t)
-    lines-sound = joined-equal (lineAt t (grown t xs)) (soundLine t run) 0 (placesIn t) (λ p from to. line-sound p (omega arith))
+    lines-sound : linesFrom mending t (grown t xs) 0 (placesIn t) ≡ joined (soundLine t run) 0 (placesIn t)
+    lines-sound = joined-equal (lineAt mending t (grown t xs)) (soundLine t run) 0 (placesIn t) (λ p from to. line-sound p (omega arith))
 
-    all-sound : tallyOf t (grown t xs) ≡ placesIn t ∷ 0 ∷ 0 ∷ 0 ∷ 0 ∷ []
-    all-sound = first-alone (answerAt t (grown t xs)) (placesIn t) (λ p h. place-told p h .sound)
+    all-sound : tallyOf mending t (grown t xs) ≡ placesIn t ∷ 0 ∷ 0 ∷ 0 ∷ 0 ∷ []
+    all-sound = first-alone (answerAt mending t (grown t xs)) (placesIn t) (λ p h. place-told p h .sound)
 
     page-listed : listed t (after t (empty t) xs) ≡ joined (soundLine t run) 0 (placesIn t) ++ lastText (placesIn t ∷ 0 ∷ 0 ∷ 0 ∷ 0 ∷ 0 ∷ [])
     page-listed = ap₂ _++_ lines-sound (ap₂ lastLine all-sound (grown-takes-all t (a .good) xs each-claims))

@@ -127,8 +127,8 @@ module _ (t : List ℕ) (good : Good t) (xs : List (List ℕ)) (p : ℕ) (h : p 
     nobody = nobody-cell;
     all-equal = equal-cell;
     two-differ = differ-cell;
-    missing = λ none.
-        grown-reads t good xs p h judged.Missing (replicate (lengthFor t p) (pos 0)) (ap (judge (rowFor t p)) (nobody-cell none)) refl;
-    contested = λ d.
-        grown-reads t good xs p h judged.Contested (replicate (lengthFor t p) (pos 0)) (ap (judge (rowFor t p)) (differ-cell d)) refl;
+    missing = λ none mode known.
+        grown-reads mode known t good xs p h judged.Missing (replicate (lengthFor t p) (pos 0)) (ap (judge mode (rowFor t p)) (nobody-cell none)) refl;
+    contested = λ d mode known.
+        grown-reads mode known t good xs p h judged.Contested (replicate (lengthFor t p) (pos 0)) (ap (judge mode (rowFor t p)) (differ-cell d)) refl;
   }

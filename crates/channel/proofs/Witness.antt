@@ -74,7 +74,9 @@ witness = record {
     among = List·Memᴰ·tail (List·Memᴰ·tail (List·Memᴰ·head refl));
     equal = each-equal wholeCase 0 first (arrivals first) refl;
     says = refl;
+    says-plain = refl;
     leaves = refl;
+    leaves-plain = refl;
   };
   its-value = refl;
   low-bits = refl;
@@ -85,9 +87,12 @@ witness = record {
     among = List·Memᴰ·tail (List·Memᴰ·tail (List·Memᴰ·head refl));
     equal = each-equal wholeCase 0 other (arrivals other) refl;
     says = refl;
+    says-plain = refl;
     leaves = refl;
+    leaves-plain = refl;
   };
   shows-sound = inl refl;
+  shows-plain = inl refl;
   shows-mended = inr (0, refl);
   any-byte = each-byte;
   page-sent = each-sent;

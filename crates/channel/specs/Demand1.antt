@@ -27,12 +27,14 @@ use Rattle.runs.specs.Run.{coordinatesIn}
 use Rattle.runs.specs.Sending.{runChecks, recordsLength, sendChecks, sendSays, sendLeaves}
 use Rattle.sending.specs.Meanings.{sendMeaning}
 use Rattle.layout.specs.Layout.{cellAt}
+use Rattle.rules.specs.Modes.{modeCheck}
 use Rattle.rules.specs.Taking.{pageCheck, foreignCheck, cellCheck, ownCellCheck, cellCheckAt, takeChecks, takeSays, takeLeaves}
 use Rattle.rules.specs.Reading.{readChecks, readSays, readLeaves, coordinateCheck, coefficientChecks, coefficientSays, coefficientCarries}
 use Rattle.rules.specs.Tallying.{tallyChecks, tallySays}
 use Rattle.page.specs.Meanings.{takeMeaning, readMeaning, coefficientMeaning, coefficientValues, tallyMeaning}
 use Rattle.page.specs.declared.Valued.{Valued}
-use Rattle.report.specs.Calls.{noRoom, linesFit, linesChecks, linesSays, linesLeaves, lineSays, lineLeaves, listedMeaning, linedMeaning}
+use Rattle.reporting.specs.Calls.{noRoom, linesFit, linesChecks, linesSays, linesLeaves, lineSays, lineLeaves}
+use Rattle.report.specs.Meanings.{listedMeaning, linedMeaning}
 
 -- several checks of one number are one condition: it holds if any of them fails
 abbrev pub condition : ℕ → List Check → Check
@@ -55,6 +57,10 @@ pointConditions v l k n b =
 -- is given for any buffer of a wrong length, 11 for any coefficient, and 12 for any cell
 abbrev pub withTable : List ℕ → List Check → List Check
 withTable t conditions = condition 7 (tableChecks t) ∷ conditions
+
+-- the conditions of a call that is given a mode before its table
+abbrev pub withMode : ℕ → List ℕ → List Check → List Check
+withMode mode t conditions = modeCheck mode ∷ withTable t conditions
 
 abbrev pub quantizeConditions : List ℕ → ℕ → List Float → ℕ → List Check
 quantizeConditions t p w b =
@@ -154,26 +160,31 @@ pub record Demand1 : Type 0 where
   pub take : (t pg x : List ℕ) → Refusing (7 ∷ 4 ∷ 8 ∷ 9 ∷ 12 ∷ []) (withTable t (takeConditions t pg x)) (takeChecks t pg x) (takeSays t pg x)
   pub take-unchanged : (t pg x : List ℕ) → Unchanged (takeSays t pg x) (takeLeaves t pg x) pg
   pub take-determined : (t pg x : List ℕ) → Determined takeMeaning (takeSays t pg x)
-  -- Read a place: 7, 8, 4, 12
-  pub read : (t pg : List ℕ) (p : ℕ) (out : List ℤ)
-      → Refusing (7 ∷ 8 ∷ 4 ∷ 12 ∷ []) (withTable t (readConditions t pg p (length out))) (readChecks t pg p (length out)) (readSays t pg p out)
-  pub read-unchanged : (t pg : List ℕ) (p : ℕ) (out : List ℤ) → Unchanged (readSays t pg p out) (readLeaves t pg p out) out
-  pub read-determined : (t pg : List ℕ) (p : ℕ) (out : List ℤ) → Determined readMeaning (readSays t pg p out)
-  -- One coefficient: 7, 8, 4, 13, 12; a refusal carries no value
-  pub coefficient : (t pg : List ℕ) (p i : ℕ)
-      → Refusing (7 ∷ 8 ∷ 4 ∷ 13 ∷ 12 ∷ []) (withTable t (coefficientConditions t pg p i)) (coefficientChecks t pg p i) (coefficientSays t pg p i)
-  pub coefficient-none : (t pg : List ℕ) (p i : ℕ) → Unchanged (coefficientSays t pg p i) (coefficientCarries t pg p i) []
-  pub coefficient-determined : (t pg : List ℕ) (p i : ℕ) (r r′ : Valued)
-      → coefficientMeaning r ≡ coefficientSays t pg p i → coefficientValues r ≡ coefficientCarries t pg p i
-      → coefficientMeaning r′ ≡ coefficientSays t pg p i → coefficientValues r′ ≡ coefficientCarries t pg p i → r ≡ r′
-  -- Tally: 7, 4, 12
-  pub tally : (t pg : List ℕ) → Refusing (7 ∷ 4 ∷ 12 ∷ []) (withTable t (tallyConditions t pg)) (tallyChecks t pg) (tallySays t pg)
-  pub tally-determined : (t pg : List ℕ) → Determined tallyMeaning (tallySays t pg)
-  -- The calls of the listing: lines as reading a place, 7, 8, 4, 12; one line of a known text, 4
-  pub lines : (t pg : List ℕ) (p : ℕ) (held : List ℕ)
-      → Refusing (7 ∷ 8 ∷ 4 ∷ 12 ∷ []) (withTable t (linesConditions t pg p (length held))) (linesChecks t pg p (length held)) (linesSays t pg p held)
-  pub lines-unchanged : (t pg : List ℕ) (p : ℕ) (held : List ℕ) → Unchanged (linesSays t pg p held) (linesLeaves t pg p held) held
-  pub lines-determined : (t pg : List ℕ) (p : ℕ) (held : List ℕ) → Determined listedMeaning (linesSays t pg p held)
+  -- Read a place: 16, 7, 8, 4, 12
+  pub read : (mode : ℕ) (t pg : List ℕ) (p : ℕ) (out : List ℤ)
+      → Refusing (16 ∷ 7 ∷ 8 ∷ 4 ∷ 12 ∷ []) (withMode mode t (readConditions t pg p (length out))) (readChecks mode t pg p (length out))
+      (readSays mode t pg p out)
+  pub read-unchanged : (mode : ℕ) (t pg : List ℕ) (p : ℕ) (out : List ℤ) → Unchanged (readSays mode t pg p out) (readLeaves mode t pg p out) out
+  pub read-determined : (mode : ℕ) (t pg : List ℕ) (p : ℕ) (out : List ℤ) → Determined readMeaning (readSays mode t pg p out)
+  -- One coefficient: 16, 7, 8, 4, 13, 12; a refusal carries no value
+  pub coefficient : (mode : ℕ) (t pg : List ℕ) (p i : ℕ)
+      → Refusing (16 ∷ 7 ∷ 8 ∷ 4 ∷ 13 ∷ 12 ∷ []) (withMode mode t (coefficientConditions t pg p i)) (coefficientChecks mode t pg p i)
+      (coefficientSays mode t pg p i)
+  pub coefficient-none : (mode : ℕ) (t pg : List ℕ) (p i : ℕ) → Unchanged (coefficientSays mode t pg p i) (coefficientCarries mode t pg p i) []
+  pub coefficient-determined : (mode : ℕ) (t pg : List ℕ) (p i : ℕ) (r r′ : Valued)
+      → coefficientMeaning r ≡ coefficientSays mode t pg p i → coefficientValues r ≡ coefficientCarries mode t pg p i
+      → coefficientMeaning r′ ≡ coefficientSays mode t pg p i → coefficientValues r′ ≡ coefficientCarries mode t pg p i → r ≡ r′
+  -- Tally: 16, 7, 4, 12
+  pub tally : (mode : ℕ) (t pg : List ℕ)
+      → Refusing (16 ∷ 7 ∷ 4 ∷ 12 ∷ []) (withMode mode t (tallyConditions t pg)) (tallyChecks mode t pg) (tallySays mode t pg)
+  pub tally-determined : (mode : ℕ) (t pg : List ℕ) → Determined tallyMeaning (tallySays mode t pg)
+  -- The calls of the listing: lines as reading a place, 16, 7, 8, 4, 12; one line of a known text, 4
+  pub lines : (mode : ℕ) (t pg : List ℕ) (p : ℕ) (held : List ℕ)
+      → Refusing (16 ∷ 7 ∷ 8 ∷ 4 ∷ 12 ∷ []) (withMode mode t (linesConditions t pg p (length held))) (linesChecks mode t pg p (length held))
+      (linesSays mode t pg p held)
+  pub lines-unchanged : (mode : ℕ) (t pg : List ℕ) (p : ℕ) (held : List ℕ)
+      → Unchanged (linesSays mode t pg p held) (linesLeaves mode t pg p held) held
+  pub lines-determined : (mode : ℕ) (t pg : List ℕ) (p : ℕ) (held : List ℕ) → Determined listedMeaning (linesSays mode t pg p held)
   pub line : (text held : List ℕ) → Refusing (4 ∷ []) (noRoom (length held) ∷ []) (noRoom (length held) ∷ []) (lineSays text held)
   pub line-unchanged : (text held : List ℕ) → Unchanged (lineSays text held) (lineLeaves text held) held
   pub line-determined : (text held : List ℕ) → Determined linedMeaning (lineSays text held)

@@ -1,5 +1,5 @@
 -- Demand 2 (docs/RULES.md, "Demands"), indices, records and answers. What is said of indices is said of the enumeration
--- of each selector v, and what is said of a page, of the enumeration of each place's row.
+-- of each selector v, and what is said of a page, of the enumeration of each place's row and in each mode.
 use Prim.Native.Nat.{ℕ, suc, _*_, _^_, _≤_, _<_, _∣_}
 use mathlib.Core.Path.{_≡_}
 use mathlib.Core.List.{List, [], _∷_, _++_}
@@ -126,17 +126,17 @@ QuantizeWrites = (t : List ℕ) (p : ℕ) (w : List Float) (out : List ℕ) → 
 
 -- ---- answers
 -- What a place of a good table shows, on any page, by the one definition that reader, coefficient and tally go by.
-pub record Answers (t pg : List ℕ) (p : ℕ) : Type 0 where
+pub record Answers (mode : ℕ) (t pg : List ℕ) (p : ℕ) : Type 0 where
   -- a point that is shown, mended or not, has an index below the total of a usable shell
-  pub shows : Shows (rowFor t p) (judgeAt t pg p)
+  pub shows : Shows (rowFor t p) (judgeAt mode t pg p)
   -- a value v is exactly coordinate x step / 256, and zero is positive zero
-  pub exact : Bytes t → (i : ℕ) → IsOver256 (scaled t p (shown (rowFor t p) (judgeAt t pg p)) i) (valueAt t pg p i)
+  pub exact : Bytes t → (i : ℕ) → IsOver256 (scaled t p (shown (rowFor t p) (judgeAt mode t pg p)) i) (valueAt mode t pg p i)
 
 -- tally j is the number of places whose answer is j, and the five sum to the number of places
-pub record Tallies (t pg : List ℕ) : Type 0 where
+pub record Tallies (mode : ℕ) (t pg : List ℕ) : Type 0 where
   pub counts : List ℕ
-  pub said : tallySays t pg ≡ 0 ∷ counts
-  pub each : (j : ℕ) → j < 5 → getD counts j 0 ≡ countOf (λ (p : ℕ). answerNumber (judgeAt t pg p)) j (placesIn t)
+  pub said : tallySays mode t pg ≡ 0 ∷ counts
+  pub each : (j : ℕ) → j < 5 → getD counts j 0 ≡ countOf (λ (p : ℕ). answerNumber (judgeAt mode t pg p)) j (placesIn t)
   pub sum : sumOf counts ≡ placesIn t
 
 -- ---- all of demand 2
@@ -147,5 +147,5 @@ pub record Demand2 : Type 0 where
   pub bits : BitOfCoordinate
   pub calls-undo : (v l k : ℕ) → selectsNone v ≡ false → IsUsable l k (selectedBy v .total l k) → CallsUndo v l k
   pub quantize-writes : QuantizeWrites
-  pub answers : (t : List ℕ) → Good t → (pg : List ℕ) (p : ℕ) → p < placesIn t → Answers t pg p
-  pub tallies : (t pg : List ℕ) → numberSaid (tallySays t pg) ≡ 0 → Tallies t pg
+  pub answers : (mode : ℕ) (t : List ℕ) → Good t → (pg : List ℕ) (p : ℕ) → p < placesIn t → Answers mode t pg p
+  pub tallies : (mode : ℕ) (t pg : List ℕ) → numberSaid (tallySays mode t pg) ≡ 0 → Tallies mode t pg

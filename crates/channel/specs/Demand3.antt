@@ -1,11 +1,11 @@
 -- Demand 3 (docs/RULES.md, "Demands"), what the channel does: it loses, repeats, reorders and changes what it
 -- carries. t is a table, xs what arrives, byte strings of any length and content in the order of arrival, those
 -- among them that are refused; p is a place. Stated over the page rules, to which the contracts of take and collect
--- tie the code, and over what the contracts of read and coefficient say.
+-- tie the code, and over what the contracts of read and coefficient say, in each mode.
 use Prim.Native.Nat.{ℕ, _/_, _^_, _<_}
 use mathlib.Core.Path.{_≡_}
 use mathlib.Core.List.{List, [], _∷_, _++_, List·Memᴰ, List·Permᴰ}
-use mathlib.Core.Bool.{true}
+use mathlib.Core.Bool.{true, false}
 use mathlib.Core.Logic.{_⊎_}
 use lib.Ieee.{Float}
 use lib.IntN.{ℤ, pos, _*ℤ_}
@@ -20,6 +20,7 @@ use Rattle.octets.specs.Octets.{highFirst}
 use Rattle.coding.specs.Coded.{pointFor}
 use Rattle.quantizer.specs.Calls.{quantizeSays, quantizeLeaves}
 use Rattle.layout.specs.Layout.{cellAt}
+use Rattle.rules.specs.Modes.{noSuchMode}
 use Rattle.rules.specs.Taking.{claims, Received, after, grown, Nobody, AllEqual, takeSays}
 use Rattle.rules.specs.Judging.{judge, shown}
 use Rattle.rules.specs.Reading.{readSays, readLeaves, coefficientSays, coefficientCarries}
@@ -47,13 +48,17 @@ abbrev pub WhatCame : List ℕ → List (List ℕ) → ℕ → Type 0
 WhatCame t xs p = Nobody t xs p ⊎ (((y : List ℕ) × OnlyCame t xs p y) ⊎ TwoDiffer t xs p)
 
 -- ---- what is read of a place
--- what both readers say of it, a point or zeros, and what each coefficient carries, with a buffer of the right length
--- and every coordinate
-pub record Reads (t pg : List ℕ) (p : ℕ) (says : List ℕ) (q : List ℤ) (carries : ℕ → List Float) : Type 0 where
-  pub read-says : (out : List ℤ) → length out ≡ lengthFor t p → readSays t pg p out ≡ says
-  pub read-leaves : (out : List ℤ) → length out ≡ lengthFor t p → readLeaves t pg p out ≡ q
-  pub coefficient-says : (i : ℕ) → i < lengthFor t p → coefficientSays t pg p i ≡ says
-  pub coefficient-carries : (i : ℕ) → i < lengthFor t p → coefficientCarries t pg p i ≡ carries i
+-- what both readers say of it in a mode, a point or zeros, and what each coefficient carries, with a buffer of the
+-- right length and every coordinate
+pub record Reads (mode : ℕ) (t pg : List ℕ) (p : ℕ) (says : List ℕ) (q : List ℤ) (carries : ℕ → List Float) : Type 0 where
+  pub read-says : (out : List ℤ) → length out ≡ lengthFor t p → readSays mode t pg p out ≡ says
+  pub read-leaves : (out : List ℤ) → length out ≡ lengthFor t p → readLeaves mode t pg p out ≡ q
+  pub coefficient-says : (i : ℕ) → i < lengthFor t p → coefficientSays mode t pg p i ≡ says
+  pub coefficient-carries : (i : ℕ) → i < lengthFor t p → coefficientCarries mode t pg p i ≡ carries i
+
+-- the same in each mode
+abbrev pub ReadsInEach : List ℕ → List ℕ → ℕ → List ℕ → List ℤ → (ℕ → List Float) → Type 0
+ReadsInEach t pg p says q carries = (mode : ℕ) → noSuchMode mode ≡ false → Reads mode t pg p says q carries
 
 -- coordinate x step, and its value: that over 256, as f32
 abbrev pub scaled : List ℕ → ℕ → List ℤ → ℕ → ℤ
@@ -63,14 +68,14 @@ scaled t p q i = getD q i (pos 0) *ℤ pos (stepOf (rowFor t p))
 abbrev pub Bytes : List ℕ → Type 0
 Bytes t = (i : ℕ) → getD t i 0 < 256
 
--- sound, with point q: each coefficient has its value, which is exact
+-- sound in each mode, with point q: each coefficient has its value, which is exact
 pub record SoundWith (t pg : List ℕ) (p : ℕ) (q : List ℤ) : Type 0 where
-  pub reads : Reads t pg p (0 ∷ 0 ∷ 0 ∷ []) q (λ i. over256 (scaled t p q i) ∷ [])
+  pub reads : ReadsInEach t pg p (0 ∷ 0 ∷ 0 ∷ []) q (λ i. over256 (scaled t p q i) ∷ [])
   pub exact : Bytes t → (i : ℕ) → IsOver256 (scaled t p q i) (over256 (scaled t p q i))
 
--- no point: zeros, and no coefficient has a value
+-- no point in any mode: zeros, and no coefficient has a value
 abbrev pub Blank : List ℕ → List ℕ → ℕ → ℕ → Type 0
-Blank t pg p answer = Reads t pg p (0 ∷ answer ∷ 0 ∷ []) (replicate (lengthFor t p) (pos 0)) (λ i. [])
+Blank t pg p answer = ReadsInEach t pg p (0 ∷ answer ∷ 0 ∷ []) (replicate (lengthFor t p) (pos 0)) (λ i. [])
 
 -- a point is shown: sound, or mended with any distance
 abbrev pub ShowsPoint : List ℕ → Type 0
@@ -89,16 +94,16 @@ pub record CellTold (t : List ℕ) (xs : List (List ℕ)) (p : ℕ) : Type 0 whe
   pub nobody : Nobody t xs p → cellAt (grown t xs) p ≡ record { state = 0; bytes = replicate 8 0 }
   pub all-equal : (y : List ℕ) → OnlyCame t xs p y → cellAt (grown t xs) p ≡ record { state = 1; bytes = y }
   pub two-differ : TwoDiffer t xs p → cellAt (grown t xs) p ≡ record { state = 2; bytes = replicate 8 0 }
-  -- so it is read as missing, 2, and as contested, 3
+  -- so it is read as missing, 2, and as contested, 3, in each mode
   pub missing : Nobody t xs p → Blank t (grown t xs) p 2
   pub contested : TwoDiffer t xs p → Blank t (grown t xs) p 3
 
 -- a page grown from empty never gives 12, in any call that could, whatever the table
 pub record Never12 (t : List ℕ) (xs : List (List ℕ)) : Type 0 where
   pub take : (x : List ℕ) → numberSaid (takeSays t (grown t xs) x) ≡ 12 → ⊥
-  pub read : (p : ℕ) (out : List ℤ) → numberSaid (readSays t (grown t xs) p out) ≡ 12 → ⊥
-  pub coefficient : (p i : ℕ) → numberSaid (coefficientSays t (grown t xs) p i) ≡ 12 → ⊥
-  pub tally : numberSaid (tallySays t (grown t xs)) ≡ 12 → ⊥
+  pub read : (mode p : ℕ) (out : List ℤ) → numberSaid (readSays mode t (grown t xs) p out) ≡ 12 → ⊥
+  pub coefficient : (mode p i : ℕ) → numberSaid (coefficientSays mode t (grown t xs) p i) ≡ 12 → ⊥
+  pub tally : (mode : ℕ) → numberSaid (tallySays mode t (grown t xs)) ≡ 12 → ⊥
 
 -- ---- c and d. What is sent for place p: coefficients w that quantize accepts, the record that it leaves, and its
 -- point.
@@ -109,7 +114,7 @@ pub record Sent (t : List ℕ) (p : ℕ) (w : List Float) (r : List ℕ) (q : Li
   pub point : pointFor (rowFor t p) w ≡ q
 
 -- c. "the place is sound with the point that was sent": the record arrives, and all that claim its place are equal
--- to it; then the place is sound with its point.
+-- to it; then the place is sound with its point, in each mode.
 abbrev pub ShownAsSent : Type 0
 ShownAsSent = (t : List ℕ) (p : ℕ) (w : List Float) (r : List ℕ) (q : List ℤ) → Sent t p w r q → (xs : List (List ℕ)) → List·Memᴰ r xs
     → AllEqual t xs p r → SoundWith t (grown t xs) p q
@@ -127,19 +132,20 @@ OnlySignsChange = (t : List ℕ) (p : ℕ) (w : List Float) (r : List ℕ) (q : 
     → SoundWith t (grown t xs) p (flipped (enumerationFor t p .index q) codeword q)
 
 -- ---- e. Conversely, by either reader: a place shows a point only if something claimed it and all that claimed it
--- were equal; and it is the point of that record. So a reading never stands over its neighbour's character because
--- of what came for the neighbour.
-pub record OnlySent (t : List ℕ) (xs : List (List ℕ)) (p : ℕ) : Type 0 where
+-- were equal; and it is the point of that record in the mode that is asked for. So a reading never stands over its
+-- neighbour's character because of what came for the neighbour.
+pub record OnlySent (mode : ℕ) (t : List ℕ) (xs : List (List ℕ)) (p : ℕ) : Type 0 where
   pub arrived : List ℕ
   pub all-equal : OnlyCame t xs p arrived
   pub its-point : (out : List ℤ) → length out ≡ lengthFor t p
-      → readLeaves t (grown t xs) p out ≡ shown (rowFor t p) (judge (rowFor t p) (record { state = 1; bytes = arrived }))
+      → readLeaves mode t (grown t xs) p out ≡ shown (rowFor t p) (judge mode (rowFor t p) (record { state = 1; bytes = arrived }))
 
 abbrev pub ReadOnlySent : Type 0
-ReadOnlySent = (t : List ℕ) (xs : List (List ℕ)) (p : ℕ) (out : List ℤ) → ShowsPoint (readSays t (grown t xs) p out) → OnlySent t xs p
+ReadOnlySent = (mode : ℕ) (t : List ℕ) (xs : List (List ℕ)) (p : ℕ) (out : List ℤ) → ShowsPoint (readSays mode t (grown t xs) p out)
+    → OnlySent mode t xs p
 
 abbrev pub ValuedOnlySent : Type 0
-ValuedOnlySent = (t : List ℕ) (xs : List (List ℕ)) (p i : ℕ) → ShowsPoint (coefficientSays t (grown t xs) p i) → OnlySent t xs p
+ValuedOnlySent = (mode : ℕ) (t : List ℕ) (xs : List (List ℕ)) (p i : ℕ) → ShowsPoint (coefficientSays mode t (grown t xs) p i) → OnlySent mode t xs p
 
 -- ---- The demand of a whole page: one good table, an empty page, a written record for every place, and any
 -- list of arrivals. What is sent for a page: for each place p the coefficients w p, which quantize accepts, the

@@ -5,3 +5,4 @@ pub mod Sending
 pub mod Witness
 pub mod ForeignRows
 pub mod PastEnd
+pub mod BothModes

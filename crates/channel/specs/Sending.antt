@@ -15,8 +15,8 @@ use Rattle.quantizer.specs.Calls.{quantizeSays, quantizeLeaves}
 use Rattle.runs.specs.Run.{vectorFor}
 use Rattle.runs.specs.Sending.{recordsLength, sendSays, sendLeaves}
 use Rattle.rules.specs.Taking.{grown, partsOf}
-use Rattle.text.specs.Text.{placeText, lastText}
-use Rattle.report.specs.Listing.{listing}
+use Rattle.wording.specs.Text.{placeText, lastText}
+use Rattle.reporting.specs.Listing.{listing}
 use Rattle.channel.specs.Demand3.{SoundWith}
 
 -- ---- the record of each place is the one that quantize writes for the place's coefficients, into any lent record

@@ -16,6 +16,7 @@ use Rattle.tables.specs.Row.{selectorOf}
 use Rattle.tables.specs.Table.{rowFor, enumerationFor}
 use Rattle.coefficients.specs.Example.{vector}
 use Rattle.rules.specs.Example.{of, first, second, other, page, zeros}
+use Rattle.rules.specs.Modes.{plain, mending}
 use Rattle.rules.specs.Taking.{grown, AllEqual}
 use Rattle.rules.specs.Reading.{readSays, readLeaves, coefficientCarries}
 use Rattle.channel.specs.Demand3.{Bytes, ShowsPoint, Sent, withCodeword, PageSent}
@@ -31,28 +32,31 @@ turned = negsuc 0 ∷ pos 0 ∷ negsuc 0 ∷ []
 abbrev pub arrivals : List ℕ → List (List ℕ)
 arrivals r = second ∷ take 7 r ∷ r ∷ of 2 0 1 5 ∷ r ∷ []
 
--- r is among them, all that claim place 0 are equal to r, and reading it gives the point q, sound
+-- r is among them, all that claim place 0 are equal to r, and reading it gives the point q, sound in both modes
 pub record Read (r : List ℕ) (q : List ℤ) : Type 0 where
   pub among : List·Memᴰ r (arrivals r)
   pub equal : AllEqual wholeCase (arrivals r) 0 r
-  pub says : readSays wholeCase (grown wholeCase (arrivals r)) 0 zeros ≡ 0 ∷ 0 ∷ 0 ∷ []
-  pub leaves : readLeaves wholeCase (grown wholeCase (arrivals r)) 0 zeros ≡ q
+  pub says : readSays mending wholeCase (grown wholeCase (arrivals r)) 0 zeros ≡ 0 ∷ 0 ∷ 0 ∷ []
+  pub says-plain : readSays plain wholeCase (grown wholeCase (arrivals r)) 0 zeros ≡ 0 ∷ 0 ∷ 0 ∷ []
+  pub leaves : readLeaves mending wholeCase (grown wholeCase (arrivals r)) 0 zeros ≡ q
+  pub leaves-plain : readLeaves plain wholeCase (grown wholeCase (arrivals r)) 0 zeros ≡ q
 
 pub record Witness : Type 0 where
   -- c: the record of the whole case is the one that quantize leaves, and (1, 0, -1) is read, the last coefficient
   -- as -1.0
   pub is-sent : Sent wholeCase 0 vector first sent
   pub is-read : Read first sent
-  pub its-value : map (toBits binary32) (coefficientCarries wholeCase (grown wholeCase (arrivals first)) 0 2) ≡ 3212836864 ∷ []
+  pub its-value : map (toBits binary32) (coefficientCarries plain wholeCase (grown wholeCase (arrivals first)) 0 2) ≡ 3212836864 ∷ []
   -- d: with bit 1 of its codeword changed, which makes 7 of 5, (-1, 0, -1) is read
   pub low-bits : enumerationFor wholeCase 0 .index sent / 2 ^ nonzerosIn sent ≡ 7 / 2 ^ nonzerosIn sent
   pub signs-are-lowest : signsLowest (selectorOf (rowFor wholeCase 0)) ≡ true
   pub is-changed : withCodeword first 7 ≡ other
   pub is-turned : flipped (enumerationFor wholeCase 0 .index sent) 7 sent ≡ turned
   pub turned-read : Read other turned
-  -- e: a sound and a mended place both meet the premise
-  pub shows-sound : ShowsPoint (readSays wholeCase page 0 zeros)
-  pub shows-mended : ShowsPoint (readSays wholeCase page 1 zeros)
+  -- e: a sound place meets the premise in both modes, and a mended one in its own
+  pub shows-sound : ShowsPoint (readSays mending wholeCase page 0 zeros)
+  pub shows-plain : ShowsPoint (readSays plain wholeCase page 0 zeros)
+  pub shows-mended : ShowsPoint (readSays mending wholeCase page 1 zeros)
   -- a table may hold every byte
   pub any-byte : (n : ℕ) → n < 256 → Bytes (n ∷ [])
   -- the demand of a whole page: the same vector, sent for every place of the table

@@ -2,10 +2,15 @@
 -- same values, are the same.
 use Prim.Native.Nat.{ℕ, zero, suc}
 use mathlib.Core.List.{List, []}
-use mathlib.Core.Path.{_≡_, refl, sym, ap₂, _∙_}
+use mathlib.Core.Path.{_≡_, refl, sym, ap, ap₂, _∙_}
 use lib.Ieee.{Float, nan}
+use lib.Dec.{eqb}
 use lib.ListN.{getD}
 use Rattle.answers.proofs.OneToOne.{one-to-one, answerOf, answer-refused}
+use Rattle.answers.specs.Checks.{pick}
+use Rattle.rules.specs.Judging.{reasonNumber, reasonDistance}
+use Rattle.rules.specs.declared.Reason.the-variants as reason
+use Rattle.rules.specs.declared.Reason.{Reason}
 use Rattle.page.specs.Meanings.{takeMeaning, readMeaning, coefficientMeaning, coefficientValues, tallyMeaning}
 use Rattle.page.specs.declared.Answer.the-variants as answer
 use Rattle.page.specs.declared.Answer.{Answer}
@@ -33,13 +38,25 @@ pub take-one-to-one : (a b : Arrival) → takeMeaning a ≡ takeMeaning b → a 
 take-one-to-one = one-to-one takeMeaning arrivalOf arrival-back
 
 -- ---- read
+-- the reasons by number, an empty shape for the rest
+whyOf : ℕ → ℕ → Reason
+whyOf number distance =
+    pick (eqb number 10) reason.NoSuchRadius (pick (eqb number 14) reason.TooWide (pick (eqb number 6) (reason.PastEnd distance) reason.EmptyShape))
+
+why-back : (why : Reason) → whyOf (reasonNumber why) (getD (reasonDistance why) 0 0) ≡ why
+unfolding whyOf
+why-back reason.NoSuchRadius = refl
+why-back reason.TooWide = refl
+why-back (reason.PastEnd distance) = refl
+why-back reason.EmptyShape = refl
+
 -- the answers by number, unreadable for the rest
 shownOf : ℕ → ℕ → ℕ → Answer
-shownOf zero reason distance = answer.Sound
-shownOf (suc zero) reason distance = answer.Mended distance
-shownOf (suc (suc zero)) reason distance = answer.Missing
-shownOf (suc (suc (suc zero))) reason distance = answer.Contested
-shownOf (suc (suc (suc (suc n)))) reason distance = answer.Unreadable reason
+shownOf zero number distance = answer.Sound
+shownOf (suc zero) number distance = answer.Mended distance
+shownOf (suc (suc zero)) number distance = answer.Missing
+shownOf (suc (suc (suc zero))) number distance = answer.Contested
+shownOf (suc (suc (suc (suc n)))) number distance = answer.Unreadable (whyOf number distance)
 
 answeredOf : List ℕ → Reading
 answeredOf vs = reading.Answered (shownOf (getD vs 0 0) (getD vs 1 0) (getD vs 2 0))
@@ -53,7 +70,7 @@ reading-back (reading.Answered answer.Sound) = refl
 reading-back (reading.Answered (answer.Mended distance)) = refl
 reading-back (reading.Answered answer.Missing) = refl
 reading-back (reading.Answered answer.Contested) = refl
-reading-back (reading.Answered (answer.Unreadable reason)) = refl
+reading-back (reading.Answered (answer.Unreadable why)) = ap (λ (w : Reason). reading.Answered (answer.Unreadable w)) (why-back why)
 reading-back (reading.Refused r) = answer-refused answeredOf reading.Refused r
 
 pub read-one-to-one : (a b : Reading) → readMeaning a ≡ readMeaning b → a ≡ b
@@ -61,11 +78,11 @@ read-one-to-one = one-to-one readMeaning readingOf reading-back
 
 -- ---- coefficient, with the values that it carries
 valueOf : ℕ → ℕ → ℕ → Float → Value
-valueOf zero reason distance v = value.Sound v
-valueOf (suc zero) reason distance v = value.Mended v distance
-valueOf (suc (suc zero)) reason distance v = value.Missing
-valueOf (suc (suc (suc zero))) reason distance v = value.Contested
-valueOf (suc (suc (suc (suc n)))) reason distance v = value.Unreadable reason
+valueOf zero number distance v = value.Sound v
+valueOf (suc zero) number distance v = value.Mended v distance
+valueOf (suc (suc zero)) number distance v = value.Missing
+valueOf (suc (suc (suc zero))) number distance v = value.Contested
+valueOf (suc (suc (suc (suc n)))) number distance v = value.Unreadable (whyOf number distance)
 
 carryingOf : List Float → List ℕ → Valued
 carryingOf values vs = valued.Answered (valueOf (getD vs 0 0) (getD vs 1 0) (getD vs 2 0) (getD values 0 nan))
@@ -79,7 +96,7 @@ valued-back (valued.Answered (value.Sound v)) = refl
 valued-back (valued.Answered (value.Mended v distance)) = refl
 valued-back (valued.Answered value.Missing) = refl
 valued-back (valued.Answered value.Contested) = refl
-valued-back (valued.Answered (value.Unreadable reason)) = refl
+valued-back (valued.Answered (value.Unreadable why)) = ap (λ (w : Reason). valued.Answered (value.Unreadable w)) (why-back why)
 valued-back (valued.Refused r) = answer-refused (carryingOf []) valued.Refused r
 
 pub coefficient-one-to-one : (a b : Valued) → coefficientMeaning a ≡ coefficientMeaning b → coefficientValues a ≡ coefficientValues b → a ≡ b

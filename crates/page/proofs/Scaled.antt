@@ -58,7 +58,7 @@ module _ (row : List ℕ) (lawful : Lawful (enumerationOf row)) where
   shown-length (judged.Mended k n d) shows = on-shell k n shows .of-length
   shown-length judged.Missing shows = length-replicate (lengthOf row) (pos 0)
   shown-length judged.Contested shows = length-replicate (lengthOf row) (pos 0)
-  shown-length (judged.Unreadable reason) shows = length-replicate (lengthOf row) (pos 0)
+  shown-length (judged.Unreadable why) shows = length-replicate (lengthOf row) (pos 0)
 
   named-small : (k n i : ℕ) → NamesPoint row k n → natAbs (getD (pointNamed row k n) i (pos 0)) ≤ 32
   named-small k n i names =
@@ -69,7 +69,7 @@ module _ (row : List ℕ) (lawful : Lawful (enumerationOf row)) where
   small (judged.Mended k n d) shows i = named-small k n i shows
   small judged.Missing shows i = zeros-small (lengthOf row) i
   small judged.Contested shows i = zeros-small (lengthOf row) i
-  small (judged.Unreadable reason) shows i = zeros-small (lengthOf row) i
+  small (judged.Unreadable why) shows i = zeros-small (lengthOf row) i
 
   -- read from a buffer that begins with what is shown
   pub coordinate-read : (j : Judged) → Shows row j → (i : ℕ) → i < lengthOf row → (written rest : List ℤ) → written ≡ shown row j

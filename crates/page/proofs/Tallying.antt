@@ -25,28 +25,28 @@ use Rattle.rules.specs.declared.Judged.{Judged}
 use Rattle.places.proofs.Opening.{in-page}
 use Rattle.page.specs.Bounds.{Ready}
 
--- n places are counted, on the way through the rows
-pub record Tallying (t pg : List ℕ) (row end n : ℕ) (counts : List ℕ) : Type 0 where
+-- n places are counted in this mode, on the way through the rows
+pub record Tallying (mode : ℕ) (t pg : List ℕ) (row end n : ℕ) (counts : List ℕ) : Type 0 where
   pub to : n ≤ placesIn t
   pub on : Walked t row end n
-  pub counted : counts ≡ countsOf (answerAt t pg) n
-  pub left : firstOf (eachFrom (cellCheckAt t pg) n (placesIn t - n)) (0 ∷ tallyOf t pg) ≡ firstOf (tallyRest t pg) (0 ∷ tallyOf t pg)
+  pub counted : counts ≡ countsOf (answerAt mode t pg) n
+  pub left : firstOf (eachFrom (cellCheckAt t pg) n (placesIn t - n)) (0 ∷ tallyOf mode t pg) ≡ firstOf (tallyRest t pg) (0 ∷ tallyOf mode t pg)
 
-module _ {t pg : List ℕ} {places : ℕ} (ready : Ready t pg places) where
-  -- the way begins at place 0
-  pub place-0 : {row : ℕ} → row ≡ rowOf t 0 → Placed t 0 row
-  place-0 is-row = let good = page-good t pg (ready .passes) in placed-in good (first-place t good) is-row
+-- the way begins at place 0
+pub place-0 : {t pg : List ℕ} {places row : ℕ} → Ready t pg places → row ≡ rowOf t 0 → Placed t 0 row
+place-0 {t} {pg} ready is-row = let good = page-good t pg (ready .passes) in placed-in good (first-place t good) is-row
 
-  pub begins : {row end : ℕ} → AtRow t row end 0 → Tallying t pg row end 0 (0 ∷ 0 ∷ 0 ∷ 0 ∷ 0 ∷ [])
+module _ {mode : ℕ} {t pg : List ℕ} {places : ℕ} (ready : Ready t pg places) where
+  pub begins : {row end : ℕ} → AtRow t row end 0 → Tallying mode t pg row end 0 (0 ∷ 0 ∷ 0 ∷ 0 ∷ 0 ∷ [])
   unfolding countOf
   begins at-row = record { to = omega arith; on = walks-here at-row; counted = refl; left = rw (sub-zero (placesIn t)) refl }
 
-  module _ {row end n : ℕ} {counts : List ℕ} (so-far : Tallying t pg row end n counts) where
+  module _ {row end n : ℕ} {counts : List ℕ} (so-far : Tallying mode t pg row end n counts) where
     -- every place is counted
-    pub ends : places ≤ n → 0 ∷ getD counts 0 0 ∷ getD counts 1 0 ∷ getD counts 2 0 ∷ getD counts 3 0 ∷ getD counts 4 0 ∷ [] ≡ firstOf (tallyRest t pg) (0 ∷ tallyOf t pg)
+    pub ends : places ≤ n → 0 ∷ getD counts 0 0 ∷ getD counts 1 0 ∷ getD counts 2 0 ∷ getD counts 3 0 ∷ getD counts 4 0 ∷ [] ≡ firstOf (tallyRest t pg) (0 ∷ tallyOf mode t pg)
     ends past =
         let all : n ≡ placesIn t = omega (arith, ready .is-places, so-far .to) in
-        rw (so-far .counted, all) refl ∙ sym (none-left (cellCheckAt t pg) (0 ∷ tallyOf t pg) n (placesIn t) (omega arith)) ∙ so-far .left
+        rw (so-far .counted, all) refl ∙ sym (none-left (cellCheckAt t pg) (0 ∷ tallyOf mode t pg) n (placesIn t) (omega arith)) ∙ so-far .left
 
     module _ (h : n < places) where
       pub inside : n < placesIn t
@@ -57,30 +57,30 @@ module _ {t pg : List ℕ} {places : ℕ} (ready : Ready t pg places) where
       place-fits = omega (arith, inside, places-to t (page-good t pg (ready .passes)))
 
       pub count-fits : (a : ℕ) → getD counts a 0 ≤ 4096
-      count-fits a = rw (so-far .counted) (omega (arith, counts-to (answerAt t pg) n a, place-fits))
+      count-fits a = rw (so-far .counted) (omega (arith, counts-to (answerAt mode t pg) n a, place-fits))
 
       pub its-cell : InPage pg places n
       its-cell = in-page t (page-good t pg (ready .passes)) (page-size t pg (ready .passes)) (ready .is-places) inside
 
       module _ {row′ end′ : ℕ} (at-row : AtRow t row′ end′ n) where
-        pub tally-12 : badCell n row′ (cellAt pg n) ≡ true → 12 ∷ n ∷ [] ≡ firstOf (tallyRest t pg) (0 ∷ tallyOf t pg)
-        tally-12 bad = sym (each-refused (cellCheckAt t pg) (0 ∷ tallyOf t pg) n (placesIn t) inside (bad-on-way at-row inside pg bad)) ∙ so-far .left
+        pub tally-12 : badCell n row′ (cellAt pg n) ≡ true → 12 ∷ n ∷ [] ≡ firstOf (tallyRest t pg) (0 ∷ tallyOf mode t pg)
+        tally-12 bad = sym (each-refused (cellCheckAt t pg) (0 ∷ tallyOf mode t pg) n (placesIn t) inside (bad-on-way at-row inside pg bad)) ∙ so-far .left
 
-        module _ (fine : badCell n row′ (cellAt pg n) ≡ false) {j : Judged} (judged : j ≡ judge (rowAt t row′) (cellAt pg n)) {a : ℕ}
+        module _ (fine : badCell n row′ (cellAt pg n) ≡ false) {j : Judged} (judged : j ≡ judge mode (rowAt t row′) (cellAt pg n)) {a : ℕ}
             (is-number : a ≡ answerNumber j) where
-          answer-is : answerAt t pg n ≡ a
+          answer-is : answerAt mode t pg n ≡ a
           answer-is =
-              let same : j ≡ judgeAt t pg n = judged ∙ ap (λ (r : ℕ). judge (rowAt t r) (cellAt pg n)) (its-row at-row inside) in
+              let same : j ≡ judgeAt mode t pg n = judged ∙ ap (λ (r : ℕ). judge mode (rowAt t r) (cellAt pg n)) (its-row at-row inside) in
               sym (is-number ∙ ap answerNumber same)
 
-          pub counts-on : Tallying t pg row′ end′ (n + 1) (set counts a (getD counts a 0 + 1))
+          pub counts-on : Tallying mode t pg row′ end′ (n + 1) (set counts a (getD counts a 0 + 1))
           counts-on = record {
             to = omega (arith, inside);
             on = walks-on at-row;
             counted =
                 rw (add-one n, add-one (getD counts a 0), so-far .counted)
-                (counts-next (answerAt t pg) n a answer-is (rw is-number (five-answers j)));
+                (counts-next (answerAt mode t pg) n a answer-is (rw is-number (five-answers j)));
             left =
                 rw (add-one n)
-                (sym (each-passed (cellCheckAt t pg) (0 ∷ tallyOf t pg) n (placesIn t) inside (bad-on-way at-row inside pg fine)) ∙ so-far .left);
+                (sym (each-passed (cellCheckAt t pg) (0 ∷ tallyOf mode t pg) n (placesIn t) inside (bad-on-way at-row inside pg fine)) ∙ so-far .left);
           }

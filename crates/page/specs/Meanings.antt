@@ -4,6 +4,7 @@ use Prim.Native.Nat.{ℕ}
 use mathlib.Core.List.{List, [], _∷_}
 use lib.Ieee.{Float}
 use Rattle.answers.specs.Refusals.{meaning}
+use Rattle.rules.specs.Judging.{reasonNumber, reasonDistance}
 use Rattle.page.specs.declared.Arrival.{Arrival}
 use Rattle.page.specs.declared.Arrival.the-variants as arrival
 use Rattle.page.specs.declared.Answer.{Answer}
@@ -23,14 +24,14 @@ abbrev pub takeMeaning : Arrival → List ℕ
 takeMeaning arrival.Taken = 0 ∷ []
 takeMeaning (arrival.Refused refusal) = meaning refusal
 
--- the answer of a place: its number in the tally's order, the reason, 0 where there is none, and the distance of a
--- mended one
+-- the answer of a place: its number in the tally's order, the reason, 0 where there is none, and the distance of one
+-- that has it
 abbrev pub answerMeaning : Answer → List ℕ
 answerMeaning answer.Sound = 0 ∷ 0 ∷ 0 ∷ []
 answerMeaning (answer.Mended distance) = 0 ∷ 1 ∷ 0 ∷ distance ∷ []
 answerMeaning answer.Missing = 0 ∷ 2 ∷ 0 ∷ []
 answerMeaning answer.Contested = 0 ∷ 3 ∷ 0 ∷ []
-answerMeaning (answer.Unreadable reason) = 0 ∷ 4 ∷ reason ∷ []
+answerMeaning (answer.Unreadable why) = 0 ∷ 4 ∷ reasonNumber why ∷ reasonDistance why
 
 abbrev pub readMeaning : Reading → List ℕ
 readMeaning (reading.Answered a) = answerMeaning a
@@ -42,14 +43,14 @@ valueMeaning (value.Sound v) = 0 ∷ 0 ∷ 0 ∷ []
 valueMeaning (value.Mended v distance) = 0 ∷ 1 ∷ 0 ∷ distance ∷ []
 valueMeaning value.Missing = 0 ∷ 2 ∷ 0 ∷ []
 valueMeaning value.Contested = 0 ∷ 3 ∷ 0 ∷ []
-valueMeaning (value.Unreadable reason) = 0 ∷ 4 ∷ reason ∷ []
+valueMeaning (value.Unreadable why) = 0 ∷ 4 ∷ reasonNumber why ∷ reasonDistance why
 
 abbrev pub valuesIn : Value → List Float
 valuesIn (value.Sound v) = v ∷ []
 valuesIn (value.Mended v distance) = v ∷ []
 valuesIn value.Missing = []
 valuesIn value.Contested = []
-valuesIn (value.Unreadable reason) = []
+valuesIn (value.Unreadable why) = []
 
 abbrev pub coefficientMeaning : Valued → List ℕ
 coefficientMeaning (valued.Answered v) = valueMeaning v

@@ -1,5 +1,6 @@
 // The calls of the page (docs/RULES.md, "The page"): take a record, collect a run of records, read a place, one
-// coefficient, and the tally. What they are made of stands in `inner`; what they are to say, in `rules`.
+// coefficient, and the tally. The last three are given a mode. What they are made of stands in `inner`; what they are
+// to say, in `rules`.
 pub mod inner;
 
 use answers::Refusal;
@@ -14,7 +15,10 @@ use inner::tallying::tally_page;
 use pairing::inner::survey::Surveyed;
 use places::inner::opening::survey_look;
 use places::inner::opening::survey_page;
+use places::inner::opening::survey_whole;
 use rows::inner::row::row_at;
+use rules::Mode;
+use rules::Reason;
 ghost use mathlib.Core.Path.{_≡_};
 ghost use Rattle.rules.specs.Taking.{takeSays, takeLeaves, collected};
 ghost use Rattle.rules.specs.Reading.{readSays, readLeaves, coefficientSays, coefficientCarries};
@@ -26,13 +30,13 @@ pub enum Arrival {
     Refused(Refusal),
 }
 
-// What a place shows; a mended one has its distance, and an unreadable one its reason: 10 or 14.
+// What a place shows; a mended one has its distance, and an unreadable one its reason, past the end with its distance.
 pub enum Answer {
     Sound,
     Mended { distance: u64 },
     Missing,
     Contested,
-    Unreadable(u32),
+    Unreadable(Reason),
 }
 
 pub enum Reading {
@@ -47,7 +51,7 @@ pub enum Value {
     Mended { value: f32, distance: u64 },
     Missing,
     Contested,
-    Unreadable(u32),
+    Unreadable(Reason),
 }
 
 pub enum Valued {
@@ -96,25 +100,26 @@ pub fn collect(table: &[u8], page: &mut [u8], bytes: &[u8]) -> usize
 }
 
 // The call read: the point of a place, or zeros, into the lent buffer once every check has passed.
-pub fn read(table: &[u8], page: &[u8], place: usize, out: &mut [i32]) -> Reading
-    ensures { λ r. ⌜ (readMeaning r ≡ readSays (now (table .entry)) (now (page .entry)) place (now (out .entry)))
-        × (now (out .exit) ≡ readLeaves (now (table .entry)) (now (page .entry)) place (now (out .entry))) ⌝ }
+pub fn read(mode: Mode, table: &[u8], page: &[u8], place: usize, out: &mut [i32]) -> Reading
+    ensures { λ r. ⌜ (readMeaning r ≡ readSays (mode .0) (now (table .entry)) (now (page .entry)) place (now (out .entry)))
+        × (now (out .exit) ≡ readLeaves (mode .0) (now (table .entry)) (now (page .entry)) place (now (out .entry))) ⌝ }
 {
-    match survey_look(table, page, place) {
+    match survey_look(mode, table, page, place) {
         Surveyed::Good { places, row } => {
-            read_at(row_at(table, row), row, page, places, place, out)
+            read_at(mode, row_at(table, row), row, page, places, place, out)
         }
         Surveyed::Bad(refusal) => Reading::Refused(refusal),
     }
 }
 
 // The call coefficient: one coordinate of a place, as its value.
-pub fn coefficient(table: &[u8], page: &[u8], place: usize, coordinate: usize) -> Valued
-    ensures { λ r. ⌜ (coefficientMeaning r ≡ coefficientSays (now (table .entry)) (now (page .entry)) place coordinate)
-        × (coefficientValues r ≡ coefficientCarries (now (table .entry)) (now (page .entry)) place coordinate) ⌝ }
+pub fn coefficient(mode: Mode, table: &[u8], page: &[u8], place: usize, coordinate: usize) -> Valued
+    ensures { λ r. ⌜ (coefficientMeaning r ≡ coefficientSays (mode .0) (now (table .entry)) (now (page .entry)) place coordinate)
+        × (coefficientValues r ≡ coefficientCarries (mode .0) (now (table .entry)) (now (page .entry)) place coordinate) ⌝ }
 {
-    match survey_look(table, page, place) {
+    match survey_look(mode, table, page, place) {
         Surveyed::Good { places, row } => coefficient_at(
+            mode,
             row_at(table, row),
             row,
             page,
@@ -127,11 +132,11 @@ pub fn coefficient(table: &[u8], page: &[u8], place: usize, coordinate: usize) -
 }
 
 // The call tally: the five counts.
-pub fn tally(table: &[u8], page: &[u8]) -> Tallied
-    ensures { λ r. ⌜ tallyMeaning r ≡ tallySays (now (table .entry)) (now (page .entry)) ⌝ }
+pub fn tally(mode: Mode, table: &[u8], page: &[u8]) -> Tallied
+    ensures { λ r. ⌜ tallyMeaning r ≡ tallySays (mode .0) (now (table .entry)) (now (page .entry)) ⌝ }
 {
-    match survey_page(table, page, 0) {
-        Surveyed::Good { places, row } => tally_page(table, places, row, page),
+    match survey_whole(mode, table, page) {
+        Surveyed::Good { places, row } => tally_page(mode, table, places, row, page),
         Surveyed::Bad(refusal) => Tallied::Refused(refusal),
     }
 }

@@ -1,4 +1,5 @@
--- The check of the page's length behind a survey by any checks, and what a place of such a page is known by.
+-- The check of the page's length behind a survey by any checks, that of the mode before it, and what a place of such a
+-- page is known by.
 use Prim.Native.Nat.{ℕ, zero, suc, _≤_, _<_}
 use mathlib.Core.Bool.{Bool, true, false}
 use mathlib.Core.List.{List, [], _∷_, _++_}
@@ -22,7 +23,9 @@ use Rattle.tables.specs.Table.{placesIn, rowOf, rowFor, Good, surveySays}
 use Rattle.layout.specs.Bounds.{InPage}
 use Rattle.layout.specs.Layout.{pageLength, pageLengthCheck}
 use Rattle.rules.proofs.Pages.{look-numbered, look-place, look-size}
-use Rattle.rules.specs.Taking.{pageCheck, lookChecks}
+use Rattle.rules.specs.Modes.{noSuchMode, modeCheck}
+use Rattle.rules.specs.Reading.{lookChecks}
+use Rattle.rules.specs.Taking.{pageCheck}
 use Rattle.places.specs.Opening.{placesTold, withPage}
 
 -- what is said behind a survey that was no refusal; `wrong` is what was found of the length
@@ -58,6 +61,14 @@ page-behind checks t p pg numbered says with-says =
     ∙ ap (λ (said : List ℕ). withPage said (length pg)) says
     ∙ with-page checks (placesIn t) (rowOf t p) (length pg) numbered
 
+-- 16 stands before any checks: it is given, or it is not and they are asked
+pub no-mode : (checks : List Check) (t : List ℕ) (p mode : ℕ) → noSuchMode mode ≡ true → 16 ∷ [] ≡ surveySays (modeCheck mode ∷ checks) t p
+no-mode checks t p mode none = rw none refl
+
+pub in-mode : (checks : List Check) (t : List ℕ) (p mode : ℕ) {said : List ℕ} → noSuchMode mode ≡ false → said ≡ surveySays checks t p
+    → said ≡ surveySays (modeCheck mode ∷ checks) t p
+in-mode checks t p mode known says = rw known says
+
 -- a table that passes has at most 4,096 places
 pub told-to : (checks : List Check) (t : List ℕ) (p : ℕ) (survey : Surveyed) → Numbered checks → (Passes checks → Good t)
     → surveyMeaning survey ≡ surveySays checks t p → placesTold survey ≤ 4096
@@ -78,15 +89,16 @@ row-of-place t p good below =
     record { sixteen = row-length t (rowOf t p) in-table; row-good = good-row t good (rowOf t p) in-table }
 
 -- a place that may be looked at, by what its survey answered
-pub look-found : (t pg : List ℕ) (p : ℕ) {survey : Surveyed} {places row : ℕ} → surveyMeaning survey ≡ surveySays (lookChecks t pg p) t p
-    → survey ≡ surveyed.Good places row → Surveys (lookChecks t pg p) t p places row
-look-found t pg p says told = survey-good (lookChecks t pg p) t p says (look-numbered t pg p) told
+pub look-found : (mode : ℕ) (t pg : List ℕ) (p : ℕ) {survey : Surveyed} {places row : ℕ}
+    → surveyMeaning survey ≡ surveySays (lookChecks mode t pg p) t p → survey ≡ surveyed.Good places row
+    → Surveys (lookChecks mode t pg p) t p places row
+look-found mode t pg p says told = survey-good (lookChecks mode t pg p) t p says (look-numbered mode t pg p) told
 
-module _ (t pg : List ℕ) (p : ℕ) {places row : ℕ} (found : Surveys (lookChecks t pg p) t p places row) where
+module _ (mode : ℕ) (t pg : List ℕ) (p : ℕ) {places row : ℕ} (found : Surveys (lookChecks mode t pg p) t p places row) where
   pub look-in-page : InPage pg places p
   look-in-page =
-      let place = look-place t pg p (found .passes) in
-      in-page t (place .0) (look-size t pg p (found .passes)) (found .is-places) (place .1)
+      let place = look-place mode t pg p (found .passes) in
+      in-page t (place .0) (look-size mode t pg p (found .passes)) (found .is-places) (place .1)
 
   pub look-row : IsRow (rowFor t p)
-  look-row = let place = look-place t pg p (found .passes) in row-of-place t p (place .0) (place .1)
+  look-row = let place = look-place mode t pg p (found .passes) in row-of-place t p (place .0) (place .1)

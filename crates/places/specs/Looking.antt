@@ -9,7 +9,7 @@ use Rattle.rules.specs.Taking.{badCell}
 use Rattle.places.specs.declared.inner.looking.Looked.{Looked}
 use Rattle.places.specs.declared.inner.looking.Looked.the-variants as looks
 
--- place p of the page, in the row of number r
-abbrev pub Looks : List ℕ → ℕ → List ℕ → ℕ → Looked → Type 0
-Looks row r pg p looks.Bad = badCell p r (cellAt pg p) ≡ true
-Looks row r pg p (looks.At seen) = (badCell p r (cellAt pg p) ≡ false) × Sees row (cellAt pg p) seen
+-- place p of the page, in the row of number r, in this mode
+abbrev pub Looks : ℕ → List ℕ → ℕ → List ℕ → ℕ → Looked → Type 0
+Looks mode row r pg p looks.Bad = badCell p r (cellAt pg p) ≡ true
+Looks mode row r pg p (looks.At seen) = (badCell p r (cellAt pg p) ≡ false) × Sees mode row (cellAt pg p) seen

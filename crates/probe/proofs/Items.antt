@@ -20,13 +20,13 @@ told-rest answer reason (suc zero) a b = absurd (a refl)
 told-rest answer reason (suc (suc zero)) a b = absurd (b refl)
 told-rest answer reason (suc (suc (suc n))) a b = refl
 
--- a mended place has its answer and its distance
-pub mended-rest : (d n : ℕ) → (n ≡ 1 → ⊥) → (n ≡ 3 → ⊥) → 0 ≡ getD (0 ∷ 1 ∷ 0 ∷ d ∷ []) n 0
-mended-rest d zero a b = refl
-mended-rest d (suc zero) a b = absurd (a refl)
-mended-rest d (suc (suc zero)) a b = refl
-mended-rest d (suc (suc (suc zero))) a b = absurd (b refl)
-mended-rest d (suc (suc (suc (suc n)))) a b = refl
+-- the items before a distance are those without one, and so are those past it
+pub without-distance : (answer reason d n : ℕ) → (n ≡ 3 → ⊥) → getD (0 ∷ answer ∷ reason ∷ []) n 0 ≡ getD (0 ∷ answer ∷ reason ∷ d ∷ []) n 0
+without-distance answer reason d zero a = refl
+without-distance answer reason d (suc zero) a = refl
+without-distance answer reason d (suc (suc zero)) a = refl
+without-distance answer reason d (suc (suc (suc zero))) a = absurd (a refl)
+without-distance answer reason d (suc (suc (suc (suc n)))) a = refl
 
 pub tally-rest : (s m i c u n : ℕ) → (n ≡ 1 → ⊥) → (n ≡ 2 → ⊥) → (n ≡ 3 → ⊥) → (n ≡ 4 → ⊥) → (n ≡ 5 → ⊥) → 0 ≡ getD (0 ∷ s ∷ m ∷ i ∷ c ∷ u ∷ []) n 0
 tally-rest s m i c u zero h1 h2 h3 h4 h5 = refl

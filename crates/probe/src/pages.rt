@@ -1,5 +1,5 @@
-// The calls of the page, and send, exported to C for the second program alone. What a call says is a list: 0 and its
-// values, or a refusal's number and what it names. `which` picks an item of it; an item past the end is 0.
+// The calls of the page, lines and send, exported to C for the second program alone. What a call says is a list: 0 and
+// its values, or a refusal's number and what it names. `which` picks an item of it; an item past the end is 0.
 use answers::Refusal;
 use answers::in_numbers;
 use page::Answer;
@@ -8,11 +8,17 @@ use page::Reading;
 use page::Tallied;
 use page::Value;
 use page::Valued;
+use report::Listed;
+use rules::Mode;
+use rules::Reason;
 use sending::Sending;
 ghost use mathlib.Core.Path.{_≡_};
 ghost use mathlib.Core.List.{_∷_, []};
 ghost use lib.ListN.{getD};
 ghost use Rattle.answers.specs.Refusals.{meaning};
+ghost use Rattle.reporting.specs.Calls.{linesSays, linesLeaves};
+ghost use Rattle.report.specs.Meanings.{listedMeaning};
+ghost use Rattle.rules.specs.Judging.{reasonNumber, reasonDistance};
 ghost use Rattle.rules.specs.Taking.{takeSays, takeLeaves, collected};
 ghost use Rattle.rules.specs.Reading.{readSays, readLeaves, coefficientSays, coefficientCarries};
 ghost use Rattle.rules.specs.Tallying.{tallySays};
@@ -45,14 +51,25 @@ fn told(answer: u64, reason: u32, which: usize) -> u64
     }
 }
 
-// An item of what is said of a mended place.
-fn mended(distance: u64, which: usize) -> u64
-    ensures { λ r. ⌜ r ≡ getD (0 ∷ 1 ∷ 0 ∷ distance ∷ []) which 0 ⌝ }
+// An item of an answer, its reason and its distance.
+fn distant(answer: u64, reason: u32, distance: u64, which: usize) -> u64
+    ensures { λ r. ⌜ r ≡ getD (0 ∷ answer ∷ reason ∷ distance ∷ []) which 0 ⌝ }
 {
-    match which {
-        1 => 1,
-        3 => distance,
-        _ => 0,
+    if which == 3 {
+        return distance;
+    }
+    told(answer, reason, which)
+}
+
+// An item of what is said of an unreadable place.
+fn unreadable(reason: Reason, which: usize) -> u64
+    ensures { λ r. ⌜ r ≡ getD (0 ∷ 4 ∷ reasonNumber reason ∷ reasonDistance reason) which 0 ⌝ }
+{
+    match reason {
+        Reason::NoSuchRadius => told(4, 10, which),
+        Reason::TooWide => told(4, 14, which),
+        Reason::PastEnd { distance } => distant(4, 6, distance, which),
+        Reason::EmptyShape => told(4, 15, which),
     }
 }
 
@@ -79,10 +96,10 @@ fn answer_item(answer: Answer, which: usize) -> u64
 {
     match answer {
         Answer::Sound => told(0, 0, which),
-        Answer::Mended { distance } => mended(distance, which),
+        Answer::Mended { distance } => distant(1, 0, distance, which),
         Answer::Missing => told(2, 0, which),
         Answer::Contested => told(3, 0, which),
-        Answer::Unreadable(reason) => told(4, reason, which),
+        Answer::Unreadable(reason) => unreadable(reason, which),
     }
 }
 
@@ -100,10 +117,10 @@ fn value_item(value: Value, which: usize) -> u64
 {
     match value {
         Value::Sound(_) => told(0, 0, which),
-        Value::Mended { value: _, distance } => mended(distance, which),
+        Value::Mended { value: _, distance } => distant(1, 0, distance, which),
         Value::Missing => told(2, 0, which),
         Value::Contested => told(3, 0, which),
-        Value::Unreadable(reason) => told(4, reason, which),
+        Value::Unreadable(reason) => unreadable(reason, which),
     }
 }
 
@@ -154,6 +171,19 @@ fn tally_item(answer: Tallied, which: usize) -> u64
     }
 }
 
+fn lines_item(answer: Listed, which: usize) -> u64
+    ensures { λ r. ⌜ r ≡ getD (listedMeaning answer) which 0 ⌝ }
+{
+    match answer {
+        Listed::Written { to, size } => match which {
+            1 => to as u64,
+            2 => size as u64,
+            _ => 0,
+        },
+        Listed::Refused(refusal) => refused(refusal, which),
+    }
+}
+
 // The call take.
 #[no_mangle]
 pub extern "C" fn probe_take(table: &[u8], page: &mut [u8], bytes: &[u8], which: usize) -> u64
@@ -175,51 +205,73 @@ pub extern "C" fn probe_collect(table: &[u8], page: &mut [u8], bytes: &[u8]) -> 
 // The call read.
 #[no_mangle]
 pub extern "C" fn probe_read(
+    mode: usize,
     table: &[u8],
     page: &[u8],
     place: usize,
     out: &mut [i32],
     which: usize,
 ) -> u64
-    ensures { λ r. ⌜ (r ≡ getD (readSays (now (table .entry)) (now (page .entry)) place (now (out .entry))) which 0)
-        × (now (out .exit) ≡ readLeaves (now (table .entry)) (now (page .entry)) place (now (out .entry))) ⌝ }
+    ensures { λ r. ⌜ (r ≡ getD (readSays mode (now (table .entry)) (now (page .entry)) place (now (out .entry))) which 0)
+        × (now (out .exit) ≡ readLeaves mode (now (table .entry)) (now (page .entry)) place (now (out .entry))) ⌝ }
 {
-    read_item(page::read(table, page, place, out), which)
+    read_item(page::read(Mode(mode), table, page, place, out), which)
 }
 
 // The call coefficient, by what it says.
 #[no_mangle]
 pub extern "C" fn probe_coefficient(
+    mode: usize,
     table: &[u8],
     page: &[u8],
     place: usize,
     coordinate: usize,
     which: usize,
 ) -> u64
-    ensures { λ r. ⌜ r ≡ getD (coefficientSays (now (table .entry)) (now (page .entry)) place coordinate) which 0 ⌝ }
+    ensures { λ r. ⌜ r ≡ getD (coefficientSays mode (now (table .entry)) (now (page .entry)) place coordinate) which 0 ⌝ }
 {
-    coefficient_item(page::coefficient(table, page, place, coordinate), which)
+    coefficient_item(
+        page::coefficient(Mode(mode), table, page, place, coordinate),
+        which,
+    )
 }
 
 // The call coefficient, by the value that it carries, or positive zero.
 #[no_mangle]
 pub extern "C" fn probe_coefficient_value(
+    mode: usize,
     table: &[u8],
     page: &[u8],
     place: usize,
     coordinate: usize,
 ) -> f32
-    ensures { λ v. ⌜ v ≡ getD (coefficientCarries (now (table .entry)) (now (page .entry)) place coordinate) 0 positiveZero ⌝ }
+    ensures { λ v. ⌜ v ≡ getD (coefficientCarries mode (now (table .entry)) (now (page .entry)) place coordinate) 0 positiveZero ⌝ }
 {
-    coefficient_value(page::coefficient(table, page, place, coordinate))
+    coefficient_value(page::coefficient(Mode(mode), table, page, place, coordinate))
 }
 
 // The call tally.
 #[no_mangle]
-pub extern "C" fn probe_tally(table: &[u8], page: &[u8], which: usize) -> u64
-    ensures { λ r. ⌜ r ≡ getD (tallySays (now (table .entry)) (now (page .entry))) which 0 ⌝ }
+pub extern "C" fn probe_tally(mode: usize, table: &[u8], page: &[u8], which: usize) -> u64
+    ensures { λ r. ⌜ r ≡ getD (tallySays mode (now (table .entry)) (now (page .entry))) which 0 ⌝ }
 {
-    tally_item(page::tally(table, page), which)
+    tally_item(page::tally(Mode(mode), table, page), which)
+}
+
+// The call lines.
+#[no_mangle]
+pub extern "C" fn probe_lines(
+    mode: usize,
+    table: &[u8],
+    page: &[u8],
+    from: usize,
+    out: &mut [u8],
+    which: usize,
+) -> u64
+    ensures { λ r. ⌜ (r ≡ getD (linesSays mode (now (table .entry)) (now (page .entry)) from (now (out .entry))) which 0)
+        × (now (out .exit) ≡ linesLeaves mode (now (table .entry)) (now (page .entry)) from (now (out .entry))) ⌝ }
+{
+    lines_item(report::lines(Mode(mode), table, page, from, out), which)
 }
 
 // The call send.

@@ -4,7 +4,7 @@ use mathlib.Core.List.{List}
 use mathlib.Core.Path.{_≡_, refl}
 use lib.ListN.{getD}
 use Rattle.answers.proofs.OneToOne.{one-to-one, answerOf, answer-refused}
-use Rattle.report.specs.Calls.{listedMeaning, linedMeaning}
+use Rattle.report.specs.Meanings.{listedMeaning, linedMeaning}
 use Rattle.report.specs.declared.Lined.the-variants as lined
 use Rattle.report.specs.declared.Lined.{Lined}
 use Rattle.report.specs.declared.Listed.the-variants as listed

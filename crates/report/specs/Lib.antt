@@ -1,5 +1,2 @@
-pub mod Listing
-pub mod Calls
+pub mod Meanings
 pub mod Bounds
-pub mod Steps
-pub mod Example

@@ -8,15 +8,17 @@ use inner::refusal::write_refusal;
 use page::Counts;
 use pairing::inner::survey::Surveyed;
 use places::inner::opening::survey_look;
+use rules::Mode;
 use text::inner::lines::write_last_line;
 ghost use mathlib.Core.Path.{_≡_};
 ghost use Prim.Native.Nat.{_≤_};
 ghost use lib.ListN.{length};
 ghost use Rattle.answers.specs.Refusals.{meaning, printed};
 ghost use Rattle.page.specs.Meanings.{countsMeaning};
-ghost use Rattle.text.specs.Text.{refusedText};
-ghost use Rattle.report.specs.Listing.{lastLine};
-ghost use Rattle.report.specs.Calls.{listedMeaning, linedMeaning, sizeListed, sizeLined, linesSays, linesLeaves, lineSays, lineLeaves};
+ghost use Rattle.wording.specs.Text.{refusedText};
+ghost use Rattle.reporting.specs.Listing.{lastLine};
+ghost use Rattle.reporting.specs.Calls.{linesSays, linesLeaves, lineSays, lineLeaves};
+ghost use Rattle.report.specs.Meanings.{listedMeaning, linedMeaning, sizeListed, sizeLined};
 
 // Lines written: the place from which to go on, and how many bytes they have.
 pub enum Listed {
@@ -30,15 +32,15 @@ pub enum Lined {
     Refused(Refusal),
 }
 
-// The call lines: those of the places from `from` on, as many as there are or as the buffer has room for, 256 bytes
-// each.
-pub fn lines(table: &[u8], page: &[u8], from: usize, out: &mut [u8]) -> Listed
-    ensures { λ r. ⌜ (listedMeaning r ≡ linesSays (now (table .entry)) (now (page .entry)) from (now (out .entry)))
-        × (now (out .exit) ≡ linesLeaves (now (table .entry)) (now (page .entry)) from (now (out .entry)))
+// The call lines: those of the places from `from` on in a mode, as many as there are or as the buffer has room for, 256
+// bytes each.
+pub fn lines(mode: Mode, table: &[u8], page: &[u8], from: usize, out: &mut [u8]) -> Listed
+    ensures { λ r. ⌜ (listedMeaning r ≡ linesSays (mode .0) (now (table .entry)) (now (page .entry)) from (now (out .entry)))
+        × (now (out .exit) ≡ linesLeaves (mode .0) (now (table .entry)) (now (page .entry)) from (now (out .entry)))
         × (sizeListed r ≤ length (now (out .exit))) ⌝ }
 {
-    match survey_look(table, page, from) {
-        Surveyed::Good { places, row } => lines_from(table, places, row, page, from, out),
+    match survey_look(mode, table, page, from) {
+        Surveyed::Good { places, row } => lines_from(mode, table, places, row, page, from, out),
         Surveyed::Bad(refusal) => Listed::Refused(refusal),
     }
 }

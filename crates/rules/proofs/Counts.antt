@@ -1,11 +1,13 @@
 -- The tally's five counts: they sum to the number of places, one place more adds 1 to the count of its answer alone,
--- and where every place is sound they are the number of places and zeros.
+-- where every place is sound they are the number of places and zeros, and an answer that no place has is counted 0
+-- times.
 use Prim.Native.Nat.{ℕ, zero, suc, _≤_, _<_}
 use mathlib.Core.Path.{_≡_, refl, sym, ap, _∙_}
 use mathlib.Core.List.{List, [], _∷_}
 use mathlib.Core.Bool.{Bool, true, false}
 use native.Mathlib.Omega.{arith}
 use lib.Dec.{eqb}
+use borrow.Author.Tests.{ne-eqb}
 use lib.ListN.{length, getD, set}
 use Rattle.answers.specs.Checks.{pick}
 use Rattle.enumeration.specs.Point.{sumOf}
@@ -21,7 +23,7 @@ five-answers (judged.Sound k n) = omega arith
 five-answers (judged.Mended k n d) = omega arith
 five-answers judged.Missing = omega arith
 five-answers judged.Contested = omega arith
-five-answers (judged.Unreadable reason) = omega arith
+five-answers (judged.Unreadable why) = omega arith
 
 -- 1 more in one of them is 1 more in their sum
 one-more : (ns : List ℕ) (a : ℕ) → a < length ns → sumOf (set ns a (suc (getD ns a 0))) ≡ suc (sumOf ns)
@@ -48,6 +50,12 @@ module _ (f : ℕ → ℕ) where
       sym (counts-next n 0 (all n (omega arith)) (omega arith))
       ∙ ap (λ (counts : List ℕ). set counts 0 (suc (getD counts 0 0))) (first-alone n (λ p h. all p (omega arith)))
 
+  -- an answer that no place has
+  pub none-counted : (a n : ℕ) → ((p : ℕ) → f p ≡ a → ⊥) → countOf f a n ≡ 0
+  unfolding countOf
+  none-counted a zero none = refl
+  none-counted a (suc n) none = rw (ne-eqb (f n) a (none n)) (none-counted a n none)
+
   -- no count is above the number of places
   count-to : (a n : ℕ) → countOf f a n ≤ n
   unfolding countOf
@@ -73,5 +81,5 @@ module _ (f : ℕ → ℕ) where
       ap sumOf (sym (counts-next n (f n) refl (below n))) ∙ one-more (countsOf f n) (f n) (below n) ∙ ap suc (counts-sum n below)
 
 -- the five answers share out the places among them
-pub tally-sum : (t pg : List ℕ) → sumOf (tallyOf t pg) ≡ placesIn t
-tally-sum t pg = counts-sum (answerAt t pg) (placesIn t) (λ p. five-answers (judgeAt t pg p))
+pub tally-sum : (mode : ℕ) (t pg : List ℕ) → sumOf (tallyOf mode t pg) ≡ placesIn t
+tally-sum mode t pg = counts-sum (answerAt mode t pg) (placesIn t) (λ p. five-answers (judgeAt mode t pg p))

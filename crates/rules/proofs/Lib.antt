@@ -1,4 +1,5 @@
 pub mod Example
+pub mod ModesExample
 pub mod CellAfter
 pub mod CellRule
 pub mod Arrivals
@@ -12,4 +13,5 @@ pub mod InEachCase
 pub mod Mending
 pub mod Shows
 pub mod Reasons
+pub mod TwoModes
 pub mod Pages

@@ -1,5 +1,5 @@
--- A codeword past the end and below 2^b, for any total: 2^(b-1) can be subtracted, what is left is below the total, and
--- with the distance it tells the codeword.
+-- A codeword past the end and below 2^b, for any total: its distance tells it; 2^(b-1) can be subtracted, and what is
+-- left is below the total.
 use Prim.Native.Nat.{ℕ, zero, suc, _+_, _-_, _^_, _≤_, _<_}
 use mathlib.Core.Path.{_≡_, refl}
 use native.Mathlib.Omega.{arith}
@@ -8,7 +8,12 @@ use native.Mathlib.Nat.{pow-suc, le-of-lt, lt-of-lt-of-le}
 use Rattle.counts.specs.Distance.{distance}
 use Rattle.counts.specs.Width.{width}
 use Rattle.counts.proofs.Widths.{width-of-1, width-enough, width-tight}
-use Rattle.rules.specs.Judging.{Mends}
+use Rattle.rules.specs.Judging.{PastBy, Mends}
+
+-- its distance tells it
+pub past-by : (total n : ℕ) → n < 2 ^ width total → total ≤ n → PastBy total n (distance total n)
+unfolding distance
+past-by total n inside above = record { below = omega arith; received = omega arith }
 
 -- a total above 1 has a width above 0
 some-bits : (total : ℕ) → 1 < total → 1 ≤ width total
@@ -49,4 +54,4 @@ module _ (total n : ℕ) (some : 0 < total) (inside : n < 2 ^ width total) (abov
   -- and with the distance it tells n
   pub mends : Mends total n (n - 2 ^ (width total - 1)) (distance total n)
   unfolding distance
-  mends = record { below = omega arith; left = omega (arith, half-to); received = omega arith }
+  mends = record { past = past-by total n inside above; left = omega (arith, half-to) }

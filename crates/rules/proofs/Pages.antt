@@ -1,5 +1,5 @@
 -- A table and a page that take records: what the checks of both tell where they pass, and the other way round; and
--- refusal 12 at a place, judged on the way through the rows.
+-- refusal 12 at a place, judged on the way through the rows. With a mode before them they are what a reading call asks.
 use Prim.Native.Nat.{ℕ, _<_}
 use mathlib.Core.Bool.{Bool, true, false}
 use mathlib.Core.List.{List, [], _∷_}
@@ -17,7 +17,10 @@ use Rattle.tables.proofs.Walking.{its-row}
 use Rattle.tables.specs.Table.{placesIn, tableChecks, placeChecks, Good}
 use Rattle.tables.specs.Way.{AtRow}
 use Rattle.layout.specs.Layout.{pageLength, cellAt}
-use Rattle.rules.specs.Taking.{badCell, badAt, pageCheck, pageChecks, lookChecks}
+use Rattle.rules.specs.Modes.{noSuchMode}
+use Rattle.rules.specs.Taking.{badCell, badAt, pageCheck, pageChecks}
+use Rattle.rules.specs.Reading.{lookChecks}
+use Rattle.rules.specs.Tallying.{wholeChecks}
 
 -- a page of the right length
 pub right-page : (t pg : List ℕ) → length pg ≡ pageLength (placesIn t) → pageCheck t pg .fails ≡ false
@@ -46,20 +49,28 @@ module _ (t pg : List ℕ) where
       go true e = inr refl
       go false e = inl (none-of (failsOf (pageChecks t pg)) e)
 
--- ---- a table, a place and a page: 7, 8, 4
-module _ (t pg : List ℕ) (p : ℕ) where
-  pub look-numbered : Numbered (lookChecks t pg p)
-  look-numbered = numbered-then (placeChecks t p) (pageCheck t pg ∷ []) (place-numbered t p) (lit< tt, tt)
+-- ---- a mode, a table and a page: 16, 7, 4
+module _ (mode : ℕ) (t pg : List ℕ) where
+  pub whole-numbered : Numbered (wholeChecks mode t pg)
+  whole-numbered = (lit< tt, page-numbered t pg)
 
-  pub look-passes : Passes (placeChecks t p) → length pg ≡ pageLength (placesIn t) → Passes (lookChecks t pg p)
-  look-passes place size = passes-then (placeChecks t p) (pageCheck t pg ∷ []) place (right-page t pg size, tt)
+  pub whole-passes : noSuchMode mode ≡ false → Passes (pageChecks t pg) → Passes (wholeChecks mode t pg)
+  whole-passes known ready = (known, ready)
 
-  module _ (ready : Passes (lookChecks t pg p)) where
+-- ---- a mode, a table, a place and a page: 16, 7, 8, 4
+module _ (mode : ℕ) (t pg : List ℕ) (p : ℕ) where
+  pub look-numbered : Numbered (lookChecks mode t pg p)
+  look-numbered = (lit< tt, numbered-then (placeChecks t p) (pageCheck t pg ∷ []) (place-numbered t p) (lit< tt, tt))
+
+  pub look-passes : noSuchMode mode ≡ false → Passes (placeChecks t p) → length pg ≡ pageLength (placesIn t) → Passes (lookChecks mode t pg p)
+  look-passes known place size = (known, passes-then (placeChecks t p) (pageCheck t pg ∷ []) place (right-page t pg size, tt))
+
+  module _ (ready : Passes (lookChecks mode t pg p)) where
     pub look-place : Good t × (p < placesIn t)
-    look-place = place-passes t p (passes-apart (placeChecks t p) (pageCheck t pg ∷ []) ready .0)
+    look-place = place-passes t p (passes-apart (placeChecks t p) (pageCheck t pg ∷ []) (ready .1) .0)
 
     pub look-size : length pg ≡ pageLength (placesIn t)
-    look-size = right-length (length pg) (pageLength (placesIn t)) (passes-apart (placeChecks t p) (pageCheck t pg ∷ []) ready .1 .0)
+    look-size = right-length (length pg) (pageLength (placesIn t)) (passes-apart (placeChecks t p) (pageCheck t pg ∷ []) (ready .1) .1 .0)
 
 -- ---- a place on the way through the rows: 12 in the row that was reached is 12 in the row of the place
 pub bad-on-way : {t : List ℕ} {row end p : ℕ} → AtRow t row end p → p < placesIn t → (pg : List ℕ) {b : Bool} → badCell p row (cellAt pg p) ≡ b

@@ -1,35 +1,42 @@
--- An unreadable place has the reason 10, 14 or 15, whatever the row and the cell: no reader, no tally and no line has
--- another one to tell. That a held record is of the row is a matter of refusal 12 alone.
+-- The answers of each mode, whatever the row and the cell: 10, 14 and 15 are the reasons of an unreadable place, and in
+-- plain mode 6; nothing is mended there. No reader, no tally and no line has another one to tell. That a held record is
+-- of the row is a matter of refusal 12 alone.
 use Prim.Native.Nat.{ℕ}
 use mathlib.Core.List.{List}
-use mathlib.Core.Logic.{inl, inr}
-use mathlib.Core.Path.{_≡_, refl}
+use mathlib.Core.Path.{_≡_}
 use native.Mathlib.Omega.{arith}
 use Rattle.layout.specs.Layout.{Cell}
-use Rattle.rules.specs.Judging.{judge, reasonOf, Reasoned}
+use Rattle.rules.specs.Judging.{judge, reasonNumber, reasonOf, AnswerIn}
 use Rattle.rules.specs.declared.Judged.{Judged}
 use Rattle.rules.specs.declared.Judged.the-variants as judged
+use Rattle.rules.specs.declared.Reason.{Reason}
+use Rattle.rules.specs.declared.Reason.the-variants as reason
 use Rattle.rules.proofs.InEachCase.{in-each}
 
-pub judge-reasoned : (row : List ℕ) (c : Cell) → Reasoned (judge row c)
-judge-reasoned row c =
-    in-each row c Reasoned
+pub answer-in : (mode : ℕ) (row : List ℕ) (c : Cell) → AnswerIn mode (judge mode row c)
+answer-in mode row c =
+    in-each row c mode (AnswerIn mode)
     (record {
       missing = tt;
       contested = tt;
-      no-radius = inl refl;
-      too-wide = inr (inl refl);
-      empty-shape = inr (inr refl);
+      no-radius = tt;
+      too-wide = tt;
+      past-end = λ is inside above. is;
+      empty-shape = tt;
       sound = λ h below named. tt;
-      mended = λ h inside above named. tt;
+      mended = λ is h inside above named. is;
     })
 
--- so 9 is no reason
-pub no-nine : (j : Judged) → Reasoned j → reasonOf j ≡ 9 → ⊥
-no-nine (judged.Sound k n) r e = omega arith
-no-nine (judged.Mended k n d) r e = omega arith
-no-nine judged.Missing r e = omega arith
-no-nine judged.Contested r e = omega arith
-no-nine (judged.Unreadable reason) (inl ten) e = omega arith
-no-nine (judged.Unreadable reason) (inr (inl fourteen)) e = omega arith
-no-nine (judged.Unreadable reason) (inr (inr fifteen)) e = omega arith
+-- 9 is no reason
+reason-not-nine : (why : Reason) → reasonNumber why ≡ 9 → ⊥
+reason-not-nine reason.NoSuchRadius e = omega arith
+reason-not-nine reason.TooWide e = omega arith
+reason-not-nine (reason.PastEnd d) e = omega arith
+reason-not-nine reason.EmptyShape e = omega arith
+
+pub no-nine : (j : Judged) → reasonOf j ≡ 9 → ⊥
+no-nine (judged.Sound k n) e = omega arith
+no-nine (judged.Mended k n d) e = omega arith
+no-nine judged.Missing e = omega arith
+no-nine judged.Contested e = omega arith
+no-nine (judged.Unreadable why) e = reason-not-nine why e

@@ -1,5 +1,5 @@
 -- What a place shows: its index, mended or not, names a point of a usable shell of the row, for any lawful enumeration;
--- and a mended place tells the codeword that was received.
+-- and a mended place, or an unreadable one of reason 6, tells the codeword that was received.
 use Prim.Native.Nat.{ℕ, zero, suc, _≤_, _<_}
 use mathlib.Core.Path.{_≡_, refl, ap}
 use mathlib.Core.Bool.{true}
@@ -10,11 +10,10 @@ use lib.ListN.{replicate, length-replicate}
 use Rattle.enumeration.specs.Enumeration.{Enumeration, Lawful}
 use Rattle.enumeration.specs.Point.{OnShell, radiusOf}
 use Rattle.tables.specs.Row.{lengthOf, radiiOf, enumerationOf, GoodRow}
-use Rattle.records.specs.Record.{codewordIn}
 use Rattle.layout.specs.Layout.{Cell}
 use Rattle.rules.specs.Judging.{mendedIndex, indexNames, judge, NamesPoint, Shows, TellsCodeword}
 use Rattle.rules.proofs.InEachCase.{radiusNumber, radius, total, codeword, in-each}
-use Rattle.rules.proofs.Mending.{mended-below, mends}
+use Rattle.rules.proofs.Mending.{past-by, mended-below, mends}
 
 -- some point is on every shell of length 1 or more, so its total is not 0
 zeros-sum : (n : ℕ) → radiusOf (replicate n (pos 0)) ≡ 0
@@ -28,37 +27,39 @@ pub total-positive : {e : Enumeration} → Lawful e → (l k : ℕ) → 1 ≤ l 
 total-positive lawful zero k h = absurd (omega arith)
 total-positive lawful (suc l) k h = omega (arith, lawful .index-below (suc l) k (pos k ∷ replicate l (pos 0)) (some-point l k))
 
--- in a good row whose enumeration is lawful
-module _ (row : List ℕ) (lawful : Lawful (enumerationOf row)) (good : GoodRow row) (c : Cell) where
+-- in a good row whose enumeration is lawful, in any mode
+module _ (mode : ℕ) (row : List ℕ) (lawful : Lawful (enumerationOf row)) (good : GoodRow row) (c : Cell) where
   some : 0 < total row c
   some = total-positive lawful (lengthOf row) (radius row c) (good .length-from)
 
-  pub judge-tells : TellsCodeword row (codewordIn (c .bytes)) (judge row c)
+  pub judge-tells : TellsCodeword row (c .bytes) (judge mode row c)
   judge-tells =
-      in-each row c (TellsCodeword row (codewordIn (c .bytes)))
+      in-each row c mode (TellsCodeword row (c .bytes))
       (record {
         missing = tt;
         contested = tt;
         no-radius = tt;
         too-wide = tt;
+        past-end = λ is inside above. past-by (total row c) (codeword row c) inside above;
         empty-shape = tt;
         sound = λ h below named. tt;
-        mended = λ h inside above named. mends (total row c) (codeword row c) some inside above;
+        mended = λ is h inside above named. mends (total row c) (codeword row c) some inside above;
       })
 
   shows-named : (m : ℕ) → radiusNumber row c < radiiOf row → m < total row c → indexNames row (radius row c) m ≡ true → NamesPoint row (radius row c) m
   shows-named m h below named = record { usable = good .radius-usable (radiusNumber row c) h; below = below; named = named }
 
-  pub judge-shows : Shows row (judge row c)
+  pub judge-shows : Shows row (judge mode row c)
   judge-shows =
-      in-each row c (Shows row)
+      in-each row c mode (Shows row)
       (record {
         missing = tt;
         contested = tt;
         no-radius = tt;
         too-wide = tt;
+        past-end = λ is inside above. tt;
         empty-shape = tt;
         sound = shows-named (codeword row c);
-        mended = λ h inside above.
+        mended = λ is h inside above.
             shows-named (mendedIndex (total row c) (codeword row c)) h (mended-below (total row c) (codeword row c) some inside above);
       })

@@ -1,7 +1,7 @@
 -- The whole case (docs/RULES.md, "Worked cases"), taken, read and tallied by the definitions, and single cells of
 -- its table: length 3, radii 0 and 2, so that N is 18 and b is 5; and cells of a product-product row. Pages are
 -- written out byte for byte, a state and a record for each place, and so is what is said. proofs/Example.antt computes
--- every line.
+-- every line. What is read here is read in mending mode; specs/ModesExample.antt has both modes.
 use Prim.Native.Nat.{ℕ}
 use mathlib.Core.Path.{_≡_}
 use mathlib.Core.List.{List, [], _∷_, _++_, map}
@@ -12,11 +12,13 @@ use lib.ListN.{take, drop, replicate}
 use Rattle.tables.specs.Example.{wholeCase, ofPlaces, ofShell}
 use Rattle.layout.specs.Layout.{Cell, emptyPage}
 use Rattle.rules.specs.Taking.{claims, badCell, takeSays, takeLeaves, collected}
+use Rattle.rules.specs.Modes.{mending}
 use Rattle.rules.specs.Judging.{judge, reasonOrDistance}
 use Rattle.rules.specs.Reading.{readSays, readLeaves, coefficientSays, coefficientCarries}
 use Rattle.rules.specs.Tallying.{tallySays}
 use Rattle.rules.specs.declared.Judged.{Judged}
 use Rattle.rules.specs.declared.Judged.the-variants as judged
+use Rattle.rules.specs.declared.Reason.the-variants as reason
 
 -- a record of that table: place, row, radius number, and the last byte of the codeword
 abbrev pub of : ℕ → ℕ → ℕ → ℕ → List ℕ
@@ -113,7 +115,7 @@ twelves = replicate 9 0 ++ 1 ∷ of 1 0 1 12 ++ 1 ∷ of 2 1 1 12 ++ replicate 9
 
 -- what the codewords of place 0 are judged to be in the product-product row
 abbrev pub judgedBits : List ℕ → List Judged
-judgedBits codewords = map (λ (n : ℕ). judge bitRow (held (of 0 0 1 n))) codewords
+judgedBits codewords = map (λ (n : ℕ). judge mending bitRow (held (of 0 0 1 n))) codewords
 
 abbrev pub zeros : List ℤ
 zeros = replicate 3 (pos 0)
@@ -164,75 +166,75 @@ pub record Example : Type 0 where
   pub foreign : collected rows-0-1 (replicate 36 0) (of 1 1 1 5 ++ of 2 0 1 7) ≡ record { page = replicate 36 0; refused = 2 }
   pub foreign-beside : collected rows-0-1 inner-two (of 1 1 1 5 ++ of 2 0 1 7) ≡ record { page = inner-two; refused = 2 }
   -- ---- reading
-  pub sound-says : readSays wholeCase page 0 zeros ≡ 0 ∷ 0 ∷ 0 ∷ []
-  pub sound-leaves : readLeaves wholeCase page 0 zeros ≡ pos 1 ∷ pos 0 ∷ negsuc 0 ∷ []
-  pub mended-says : readSays wholeCase page 1 zeros ≡ 0 ∷ 1 ∷ 0 ∷ 0 ∷ []
-  pub mended-leaves : readLeaves wholeCase page 1 zeros ≡ pos 0 ∷ negsuc 0 ∷ pos 1 ∷ []
-  pub past-says : readSays wholeCase past 1 zeros ≡ 0 ∷ 1 ∷ 0 ∷ 2 ∷ []
-  pub past-leaves : readLeaves wholeCase past 1 zeros ≡ pos 1 ∷ pos 0 ∷ pos 1 ∷ []
+  pub sound-says : readSays mending wholeCase page 0 zeros ≡ 0 ∷ 0 ∷ 0 ∷ []
+  pub sound-leaves : readLeaves mending wholeCase page 0 zeros ≡ pos 1 ∷ pos 0 ∷ negsuc 0 ∷ []
+  pub mended-says : readSays mending wholeCase page 1 zeros ≡ 0 ∷ 1 ∷ 0 ∷ 0 ∷ []
+  pub mended-leaves : readLeaves mending wholeCase page 1 zeros ≡ pos 0 ∷ negsuc 0 ∷ pos 1 ∷ []
+  pub past-says : readSays mending wholeCase past 1 zeros ≡ 0 ∷ 1 ∷ 0 ∷ 2 ∷ []
+  pub past-leaves : readLeaves mending wholeCase past 1 zeros ≡ pos 1 ∷ pos 0 ∷ pos 1 ∷ []
   -- the other three write zeros into a buffer of nines; so do an empty and a contested cell with bytes in them
-  pub missing-says : readSays wholeCase (replicate 18 0) 1 nines ≡ 0 ∷ 2 ∷ 0 ∷ []
-  pub missing-leaves : readLeaves wholeCase (replicate 18 0) 1 nines ≡ zeros
-  pub contested-says : readSays wholeCase damaged 0 nines ≡ 0 ∷ 3 ∷ 0 ∷ []
-  pub contested-leaves : readLeaves wholeCase damaged 0 nines ≡ zeros
-  pub unreadable-says : readSays wholeCase damaged 1 nines ≡ 0 ∷ 4 ∷ 14 ∷ []
-  pub unreadable-leaves : readLeaves wholeCase damaged 1 nines ≡ zeros
-  pub garbage-missing : readSays wholeCase garbled 0 nines ≡ 0 ∷ 2 ∷ 0 ∷ []
-  pub garbage-contested : readSays wholeCase garbled 1 nines ≡ 0 ∷ 3 ∷ 0 ∷ []
+  pub missing-says : readSays mending wholeCase (replicate 18 0) 1 nines ≡ 0 ∷ 2 ∷ 0 ∷ []
+  pub missing-leaves : readLeaves mending wholeCase (replicate 18 0) 1 nines ≡ zeros
+  pub contested-says : readSays mending wholeCase damaged 0 nines ≡ 0 ∷ 3 ∷ 0 ∷ []
+  pub contested-leaves : readLeaves mending wholeCase damaged 0 nines ≡ zeros
+  pub unreadable-says : readSays mending wholeCase damaged 1 nines ≡ 0 ∷ 4 ∷ 14 ∷ []
+  pub unreadable-leaves : readLeaves mending wholeCase damaged 1 nines ≡ zeros
+  pub garbage-missing : readSays mending wholeCase garbled 0 nines ≡ 0 ∷ 2 ∷ 0 ∷ []
+  pub garbage-contested : readSays mending wholeCase garbled 1 nines ≡ 0 ∷ 3 ∷ 0 ∷ []
   -- codewords: N - 1, N, 2 more, 2^b - 1, 2^b; at radius 0, where b is 0, 0 and 1
-  pub codeword-17 : judge wholeCase (held (of 0 0 1 17)) ≡ judged.Sound 2 17
-  pub codeword-18 : judge wholeCase (held (of 0 0 1 18)) ≡ judged.Mended 2 2 0
-  pub codeword-20 : judge wholeCase (held (of 0 0 1 20)) ≡ judged.Mended 2 4 2
-  pub codeword-31 : judge wholeCase (held (of 0 0 1 31)) ≡ judged.Mended 2 15 13
-  pub codeword-32 : judge wholeCase (held (of 0 0 1 32)) ≡ judged.Unreadable 14
-  pub codeword-0-0 : judge wholeCase (held (of 0 0 0 0)) ≡ judged.Sound 0 0
-  pub codeword-0-1 : judge wholeCase (held (of 0 0 0 1)) ≡ judged.Unreadable 14
+  pub codeword-17 : judge mending wholeCase (held (of 0 0 1 17)) ≡ judged.Sound 2 17
+  pub codeword-18 : judge mending wholeCase (held (of 0 0 1 18)) ≡ judged.Mended 2 2 0
+  pub codeword-20 : judge mending wholeCase (held (of 0 0 1 20)) ≡ judged.Mended 2 4 2
+  pub codeword-31 : judge mending wholeCase (held (of 0 0 1 31)) ≡ judged.Mended 2 15 13
+  pub codeword-32 : judge mending wholeCase (held (of 0 0 1 32)) ≡ judged.Unreadable reason.TooWide
+  pub codeword-0-0 : judge mending wholeCase (held (of 0 0 0 0)) ≡ judged.Sound 0 0
+  pub codeword-0-1 : judge mending wholeCase (held (of 0 0 0 1)) ≡ judged.Unreadable reason.TooWide
   -- codewords of the product-product row, whose total is 20 and b is 5: up to 11, and from 16 on, an index names a
   -- point; 12 to 15 have an empty shape, and so have those that mend to them
   pub bits-sound : judgedBits (11 ∷ 16 ∷ 19 ∷ []) ≡ judged.Sound 4 11 ∷ judged.Sound 4 16 ∷ judged.Sound 4 19 ∷ []
-  pub bits-empty : judgedBits (12 ∷ 13 ∷ 14 ∷ 15 ∷ []) ≡ replicate 4 (judged.Unreadable 15)
+  pub bits-empty : judgedBits (12 ∷ 13 ∷ 14 ∷ 15 ∷ []) ≡ replicate 4 (judged.Unreadable reason.EmptyShape)
   pub bits-mended : judgedBits (20 ∷ 27 ∷ []) ≡ judged.Mended 4 4 0 ∷ judged.Mended 4 11 7 ∷ []
-  pub bits-mended-empty : judgedBits (28 ∷ 29 ∷ 30 ∷ 31 ∷ []) ≡ replicate 4 (judged.Unreadable 15)
-  pub bits-wide : judgedBits (32 ∷ 44 ∷ []) ≡ replicate 2 (judged.Unreadable 14)
-  pub bits-radius-0 : judge bitRow (held (of 0 0 0 0)) ≡ judged.Sound 0 0
+  pub bits-mended-empty : judgedBits (28 ∷ 29 ∷ 30 ∷ 31 ∷ []) ≡ replicate 4 (judged.Unreadable reason.EmptyShape)
+  pub bits-wide : judgedBits (32 ∷ 44 ∷ []) ≡ replicate 2 (judged.Unreadable reason.TooWide)
+  pub bits-radius-0 : judge mending bitRow (held (of 0 0 0 0)) ≡ judged.Sound 0 0
   -- each row is read by its own enumeration: 12 is (0,4) in the first, and has an empty shape in the second
-  pub product-says : readSays fields twelves 1 (take 2 nines) ≡ 0 ∷ 0 ∷ 0 ∷ []
-  pub product-leaves : readLeaves fields twelves 1 (take 2 nines) ≡ pos 0 ∷ pos 4 ∷ []
-  pub empty-says : readSays fields twelves 2 (take 2 nines) ≡ 0 ∷ 4 ∷ 15 ∷ []
-  pub empty-leaves : readLeaves fields twelves 2 (take 2 nines) ≡ take 2 zeros
-  pub coefficient-empty : coefficientSays fields twelves 2 1 ≡ 0 ∷ 4 ∷ 15 ∷ []
-  pub empty-carries : coefficientCarries fields twelves 2 1 ≡ []
-  pub tallied-empty : tallySays fields twelves ≡ 0 ∷ 1 ∷ 0 ∷ 2 ∷ 0 ∷ 1 ∷ []
+  pub product-says : readSays mending fields twelves 1 (take 2 nines) ≡ 0 ∷ 0 ∷ 0 ∷ []
+  pub product-leaves : readLeaves mending fields twelves 1 (take 2 nines) ≡ pos 0 ∷ pos 4 ∷ []
+  pub empty-says : readSays mending fields twelves 2 (take 2 nines) ≡ 0 ∷ 4 ∷ 15 ∷ []
+  pub empty-leaves : readLeaves mending fields twelves 2 (take 2 nines) ≡ take 2 zeros
+  pub coefficient-empty : coefficientSays mending fields twelves 2 1 ≡ 0 ∷ 4 ∷ 15 ∷ []
+  pub empty-carries : coefficientCarries mending fields twelves 2 1 ≡ []
+  pub tallied-empty : tallySays mending fields twelves ≡ 0 ∷ 1 ∷ 0 ∷ 2 ∷ 0 ∷ 1 ∷ []
   -- the reason or the distance in one field
   pub field-sound : reasonOrDistance (judged.Sound 2 17) ≡ 0
   pub field-mended : reasonOrDistance (judged.Mended 2 4 2) ≡ 2
   pub field-missing : reasonOrDistance judged.Missing ≡ 0
   pub field-contested : reasonOrDistance judged.Contested ≡ 0
-  pub field-unreadable : reasonOrDistance (judged.Unreadable 14) ≡ 14
+  pub field-unreadable : reasonOrDistance (judged.Unreadable reason.TooWide) ≡ 14
   -- the reasons in their order; what row a record names is not asked here
-  pub reason-10 : judge wholeCase (held (of 0 0 2 99)) ≡ judged.Unreadable 10
-  pub any-row : judge wholeCase (held (of 0 1 1 5)) ≡ judged.Sound 2 5
+  pub reason-10 : judge mending wholeCase (held (of 0 0 2 99)) ≡ judged.Unreadable reason.NoSuchRadius
+  pub any-row : judge mending wholeCase (held (of 0 1 1 5)) ≡ judged.Sound 2 5
   -- ---- one coefficient: 1.0, 0.0 and -1.0; with a step of 775 over 256 the mended ones are 0.0, -3.02734375 and
   -- 3.02734375
-  pub coefficient-sound : coefficientSays wholeCase page 0 0 ≡ 0 ∷ 0 ∷ 0 ∷ []
-  pub values-0 : map (toBits binary32) (coefficientCarries wholeCase page 0 0) ≡ 1065353216 ∷ []
-  pub values-1 : map (toBits binary32) (coefficientCarries wholeCase page 0 1) ≡ 0 ∷ []
-  pub values-2 : map (toBits binary32) (coefficientCarries wholeCase page 0 2) ≡ 3212836864 ∷ []
-  pub coefficient-mended : coefficientSays step-775 page 1 1 ≡ 0 ∷ 1 ∷ 0 ∷ 0 ∷ []
-  pub coefficient-past : coefficientSays step-775 past 1 1 ≡ 0 ∷ 1 ∷ 0 ∷ 2 ∷ []
-  pub scaled-0 : map (toBits binary32) (coefficientCarries step-775 page 1 0) ≡ 0 ∷ []
-  pub scaled-1 : map (toBits binary32) (coefficientCarries step-775 page 1 1) ≡ 3225534464 ∷ []
-  pub scaled-2 : map (toBits binary32) (coefficientCarries step-775 page 1 2) ≡ 1078050816 ∷ []
+  pub coefficient-sound : coefficientSays mending wholeCase page 0 0 ≡ 0 ∷ 0 ∷ 0 ∷ []
+  pub values-0 : map (toBits binary32) (coefficientCarries mending wholeCase page 0 0) ≡ 1065353216 ∷ []
+  pub values-1 : map (toBits binary32) (coefficientCarries mending wholeCase page 0 1) ≡ 0 ∷ []
+  pub values-2 : map (toBits binary32) (coefficientCarries mending wholeCase page 0 2) ≡ 3212836864 ∷ []
+  pub coefficient-mended : coefficientSays mending step-775 page 1 1 ≡ 0 ∷ 1 ∷ 0 ∷ 0 ∷ []
+  pub coefficient-past : coefficientSays mending step-775 past 1 1 ≡ 0 ∷ 1 ∷ 0 ∷ 2 ∷ []
+  pub scaled-0 : map (toBits binary32) (coefficientCarries mending step-775 page 1 0) ≡ 0 ∷ []
+  pub scaled-1 : map (toBits binary32) (coefficientCarries mending step-775 page 1 1) ≡ 3225534464 ∷ []
+  pub scaled-2 : map (toBits binary32) (coefficientCarries mending step-775 page 1 2) ≡ 1078050816 ∷ []
   -- the other three carry none
-  pub coefficient-missing : coefficientSays wholeCase (replicate 18 0) 0 2 ≡ 0 ∷ 2 ∷ 0 ∷ []
-  pub missing-carries : coefficientCarries wholeCase (replicate 18 0) 0 2 ≡ []
-  pub coefficient-contested : coefficientSays wholeCase damaged 0 2 ≡ 0 ∷ 3 ∷ 0 ∷ []
-  pub contested-carries : coefficientCarries wholeCase damaged 0 2 ≡ []
-  pub coefficient-unreadable : coefficientSays wholeCase damaged 1 2 ≡ 0 ∷ 4 ∷ 14 ∷ []
-  pub unreadable-carries : coefficientCarries wholeCase damaged 1 2 ≡ []
+  pub coefficient-missing : coefficientSays mending wholeCase (replicate 18 0) 0 2 ≡ 0 ∷ 2 ∷ 0 ∷ []
+  pub missing-carries : coefficientCarries mending wholeCase (replicate 18 0) 0 2 ≡ []
+  pub coefficient-contested : coefficientSays mending wholeCase damaged 0 2 ≡ 0 ∷ 3 ∷ 0 ∷ []
+  pub contested-carries : coefficientCarries mending wholeCase damaged 0 2 ≡ []
+  pub coefficient-unreadable : coefficientSays mending wholeCase damaged 1 2 ≡ 0 ∷ 4 ∷ 14 ∷ []
+  pub unreadable-carries : coefficientCarries mending wholeCase damaged 1 2 ≡ []
   -- ---- the tally: sound, mended, missing, contested, unreadable
-  pub tallied : tallySays wholeCase page ≡ 0 ∷ 1 ∷ 1 ∷ 0 ∷ 0 ∷ 0 ∷ []
-  pub tallied-mixed : tallySays (ofPlaces 0 15) mixed ≡ 0 ∷ 5 ∷ 4 ∷ 3 ∷ 2 ∷ 1 ∷ []
+  pub tallied : tallySays mending wholeCase page ≡ 0 ∷ 1 ∷ 1 ∷ 0 ∷ 0 ∷ 0 ∷ []
+  pub tallied-mixed : tallySays mending (ofPlaces 0 15) mixed ≡ 0 ∷ 5 ∷ 4 ∷ 3 ∷ 2 ∷ 1 ∷ []
   -- ---- refusals of take: 7, 4, 8, 9, 12; with two faults at once, the first is told
   pub take-7 : takeSays (take 15 wholeCase) (take 17 page) (take 7 first) ≡ 7 ∷ 0 ∷ []
   pub take-4-short : takeSays wholeCase page (take 7 (of 2 0 1 5)) ≡ 4 ∷ []
@@ -260,33 +262,33 @@ pub record Example : Type 0 where
   pub take-12-state : takeSays wholeCase state-3 first ≡ 12 ∷ []
   pub take-beside-it : takeSays wholeCase second-twice second ≡ 0 ∷ []
   -- ---- of read: 7, 8, 4, 12
-  pub read-7 : readSays (take 15 wholeCase) (take 17 page) 2 [] ≡ 7 ∷ 0 ∷ []
-  pub read-8 : readSays wholeCase page 2 zeros ≡ 8 ∷ []
-  pub read-8-first : readSays wholeCase (take 17 page) 2 [] ≡ 8 ∷ []
-  pub read-4-page-short : readSays wholeCase (take 17 second-twice) 0 zeros ≡ 4 ∷ []
-  pub read-4-page-long : readSays wholeCase (page ++ 0 ∷ []) 0 zeros ≡ 4 ∷ []
-  pub read-4-short : readSays wholeCase second-twice 0 (take 2 zeros) ≡ 4 ∷ []
-  pub read-4-long : readSays wholeCase page 0 (pos 0 ∷ zeros) ≡ 4 ∷ []
-  pub read-12 : readSays wholeCase second-twice 0 zeros ≡ 12 ∷ []
-  pub read-12-row-above : readSays rows-0-1 row-above 1 zeros ≡ 12 ∷ []
-  pub read-12-row-below : readSays rows-0-1 row-below 2 zeros ≡ 12 ∷ []
-  pub read-each-row : readSays rows-0-1 inner-two 2 zeros ≡ 0 ∷ 0 ∷ 0 ∷ []
-  pub read-12-leaves : readLeaves wholeCase second-twice 0 nines ≡ nines
+  pub read-7 : readSays mending (take 15 wholeCase) (take 17 page) 2 [] ≡ 7 ∷ 0 ∷ []
+  pub read-8 : readSays mending wholeCase page 2 zeros ≡ 8 ∷ []
+  pub read-8-first : readSays mending wholeCase (take 17 page) 2 [] ≡ 8 ∷ []
+  pub read-4-page-short : readSays mending wholeCase (take 17 second-twice) 0 zeros ≡ 4 ∷ []
+  pub read-4-page-long : readSays mending wholeCase (page ++ 0 ∷ []) 0 zeros ≡ 4 ∷ []
+  pub read-4-short : readSays mending wholeCase second-twice 0 (take 2 zeros) ≡ 4 ∷ []
+  pub read-4-long : readSays mending wholeCase page 0 (pos 0 ∷ zeros) ≡ 4 ∷ []
+  pub read-12 : readSays mending wholeCase second-twice 0 zeros ≡ 12 ∷ []
+  pub read-12-row-above : readSays mending rows-0-1 row-above 1 zeros ≡ 12 ∷ []
+  pub read-12-row-below : readSays mending rows-0-1 row-below 2 zeros ≡ 12 ∷ []
+  pub read-each-row : readSays mending rows-0-1 inner-two 2 zeros ≡ 0 ∷ 0 ∷ 0 ∷ []
+  pub read-12-leaves : readLeaves mending wholeCase second-twice 0 nines ≡ nines
   -- ---- of one coefficient: 7, 8, 4, 13, 12; 13 at a missing place too
-  pub coefficient-7 : coefficientSays (take 15 wholeCase) (take 17 page) 2 3 ≡ 7 ∷ 0 ∷ []
-  pub coefficient-8 : coefficientSays wholeCase (take 17 page) 2 3 ≡ 8 ∷ []
-  pub coefficient-4 : coefficientSays wholeCase (take 17 second-twice) 0 3 ≡ 4 ∷ []
-  pub coefficient-13 : coefficientSays wholeCase second-twice 0 3 ≡ 13 ∷ []
-  pub coefficient-13-missing : coefficientSays wholeCase (replicate 18 0) 0 3 ≡ 13 ∷ []
-  pub coefficient-12 : coefficientSays wholeCase second-twice 0 2 ≡ 12 ∷ []
-  pub coefficient-12-row : coefficientSays rows-0-1 row-below 2 0 ≡ 12 ∷ []
-  pub refused-carries : coefficientCarries wholeCase second-twice 0 2 ≡ []
+  pub coefficient-7 : coefficientSays mending (take 15 wholeCase) (take 17 page) 2 3 ≡ 7 ∷ 0 ∷ []
+  pub coefficient-8 : coefficientSays mending wholeCase (take 17 page) 2 3 ≡ 8 ∷ []
+  pub coefficient-4 : coefficientSays mending wholeCase (take 17 second-twice) 0 3 ≡ 4 ∷ []
+  pub coefficient-13 : coefficientSays mending wholeCase second-twice 0 3 ≡ 13 ∷ []
+  pub coefficient-13-missing : coefficientSays mending wholeCase (replicate 18 0) 0 3 ≡ 13 ∷ []
+  pub coefficient-12 : coefficientSays mending wholeCase second-twice 0 2 ≡ 12 ∷ []
+  pub coefficient-12-row : coefficientSays mending rows-0-1 row-below 2 0 ≡ 12 ∷ []
+  pub refused-carries : coefficientCarries mending wholeCase second-twice 0 2 ≡ []
   -- ---- of the tally: 7, 4, 12 with the lowest place
-  pub tally-7 : tallySays (take 15 wholeCase) (take 17 page) ≡ 7 ∷ 0 ∷ []
-  pub tally-4 : tallySays wholeCase (take 17 state-3) ≡ 4 ∷ []
-  pub tally-4-long : tallySays wholeCase (page ++ 0 ∷ []) ≡ 4 ∷ []
-  pub tally-12 : tallySays wholeCase first-twice ≡ 12 ∷ 1 ∷ []
-  pub tally-12-row-above : tallySays rows-0-1 row-above ≡ 12 ∷ 1 ∷ []
-  pub tally-12-row-below : tallySays rows-0-1 row-below ≡ 12 ∷ 2 ∷ []
-  pub tally-each-row : tallySays rows-0-1 inner-two ≡ 0 ∷ 2 ∷ 0 ∷ 2 ∷ 0 ∷ 0 ∷ []
-  pub tally-12-lowest : tallySays wholeCase (3 ∷ first ++ 3 ∷ second) ≡ 12 ∷ 0 ∷ []
+  pub tally-7 : tallySays mending (take 15 wholeCase) (take 17 page) ≡ 7 ∷ 0 ∷ []
+  pub tally-4 : tallySays mending wholeCase (take 17 state-3) ≡ 4 ∷ []
+  pub tally-4-long : tallySays mending wholeCase (page ++ 0 ∷ []) ≡ 4 ∷ []
+  pub tally-12 : tallySays mending wholeCase first-twice ≡ 12 ∷ 1 ∷ []
+  pub tally-12-row-above : tallySays mending rows-0-1 row-above ≡ 12 ∷ 1 ∷ []
+  pub tally-12-row-below : tallySays mending rows-0-1 row-below ≡ 12 ∷ 2 ∷ []
+  pub tally-each-row : tallySays mending rows-0-1 inner-two ≡ 0 ∷ 2 ∷ 0 ∷ 2 ∷ 0 ∷ 0 ∷ []
+  pub tally-12-lowest : tallySays mending wholeCase (3 ∷ first ++ 3 ∷ second) ≡ 12 ∷ 0 ∷ []

@@ -1,5 +1,8 @@
+pub mod Modes
 pub mod Taking
 pub mod Judging
+pub mod TwoModes
 pub mod Reading
 pub mod Tallying
 pub mod Example
+pub mod ModesExample

@@ -1,6 +1,6 @@
 -- What the calls read and coefficient say, and what read leaves in the lent buffer (docs/RULES.md, "The page",
--- "Refusal numbers" and "Order of checks"). t is the table's bytes, pg the page's, p the place, i the coordinate;
--- all of them any. `row` is the bytes of a row, r its number.
+-- "Refusal numbers" and "Order of checks"). `mode` is the mode, t the table's bytes, pg the page's, p the place, i the
+-- coordinate; all of them any. `row` is the bytes of a row, r its number.
 use Prim.Native.Nat.{ℕ}
 use mathlib.Core.List.{List, [], _∷_, _++_}
 use lib.Dec.{leb}
@@ -10,54 +10,59 @@ use lib.ListN.{length, getD}
 use Rattle.answers.specs.Checks.{Check, firstOf, leaves, lengthCheck}
 use Rattle.floats.specs.Exact.{over256}
 use Rattle.tables.specs.Row.{lengthOf, stepOf}
-use Rattle.tables.specs.Table.{rowOf, rowFor}
+use Rattle.tables.specs.Table.{rowOf, rowFor, placeChecks}
 use Rattle.layout.specs.Layout.{cellAt}
-use Rattle.rules.specs.Taking.{cellCheck, lookChecks}
+use Rattle.rules.specs.Modes.{modeCheck}
+use Rattle.rules.specs.Taking.{cellCheck, pageCheck}
 use Rattle.rules.specs.Judging.{judgeAt, answerNumber, reasonOf, distanceOf, shown}
 use Rattle.rules.specs.declared.Judged.{Judged}
 use Rattle.rules.specs.declared.Judged.the-variants as judged
 
 -- the point of a place, or zeros
-abbrev pub pointAt : List ℕ → List ℕ → ℕ → List ℤ
-pointAt t pg p = shown (rowFor t p) (judgeAt t pg p)
+abbrev pub pointAt : ℕ → List ℕ → List ℕ → ℕ → List ℤ
+pointAt mode t pg p = shown (rowFor t p) (judgeAt mode t pg p)
 
--- what is told of a place: its answer, the reason, and the distance of a mended one
+-- what is told of a place: its answer, the reason, and the distance of one that has it
 abbrev pub told : Judged → List ℕ
 told j = 0 ∷ answerNumber j ∷ reasonOf j ∷ distanceOf j
 
+-- of a mode, a table, a place and a page: 16, 7, 8, 4
+abbrev pub lookChecks : ℕ → List ℕ → List ℕ → ℕ → List Check
+lookChecks mode t pg p = modeCheck mode ∷ placeChecks t p ++ (pageCheck t pg ∷ [])
+
 -- ---- the call read
--- Read a place: 7, 8, 4, 12; first what is checked in the row of the place, b being the length of the lent buffer
+-- Read a place: 16, 7, 8, 4, 12; first what is checked in the row of the place, b being the length of the lent buffer
 abbrev pub readRest : List ℕ → ℕ → List ℕ → ℕ → ℕ → List Check
 readRest row r pg p b = lengthCheck b (lengthOf row) ∷ cellCheck p r (cellAt pg p) ∷ []
 
-abbrev pub readChecks : List ℕ → List ℕ → ℕ → ℕ → List Check
-readChecks t pg p b = lookChecks t pg p ++ readRest (rowFor t p) (rowOf t p) pg p b
+abbrev pub readChecks : ℕ → List ℕ → List ℕ → ℕ → ℕ → List Check
+readChecks mode t pg p b = lookChecks mode t pg p ++ readRest (rowFor t p) (rowOf t p) pg p b
 
 -- what it is to say, and what it leaves in a buffer that held `held`
-abbrev pub readSays : List ℕ → List ℕ → ℕ → List ℤ → List ℕ
-readSays t pg p held = firstOf (readChecks t pg p (length held)) (told (judgeAt t pg p))
+abbrev pub readSays : ℕ → List ℕ → List ℕ → ℕ → List ℤ → List ℕ
+readSays mode t pg p held = firstOf (readChecks mode t pg p (length held)) (told (judgeAt mode t pg p))
 
-abbrev pub readLeaves : List ℕ → List ℕ → ℕ → List ℤ → List ℤ
-readLeaves t pg p held = leaves (readChecks t pg p (length held)) (pointAt t pg p) held
+abbrev pub readLeaves : ℕ → List ℕ → List ℕ → ℕ → List ℤ → List ℤ
+readLeaves mode t pg p held = leaves (readChecks mode t pg p (length held)) (pointAt mode t pg p) held
 
 -- ---- the call coefficient
 -- 13: coordinate number l or more
 abbrev pub coordinateCheck : List ℕ → ℕ → Check
 coordinateCheck row i = record { number = 13; values = []; fails = leb (lengthOf row) i }
 
--- One coefficient: 7, 8, 4, 13, 12; first what is checked in the row of the place
+-- One coefficient: 16, 7, 8, 4, 13, 12; first what is checked in the row of the place
 abbrev pub coefficientRest : List ℕ → ℕ → List ℕ → ℕ → ℕ → List Check
 coefficientRest row r pg p i = coordinateCheck row i ∷ cellCheck p r (cellAt pg p) ∷ []
 
-abbrev pub coefficientChecks : List ℕ → List ℕ → ℕ → ℕ → List Check
-coefficientChecks t pg p i = lookChecks t pg p ++ coefficientRest (rowFor t p) (rowOf t p) pg p i
+abbrev pub coefficientChecks : ℕ → List ℕ → List ℕ → ℕ → ℕ → List Check
+coefficientChecks mode t pg p i = lookChecks mode t pg p ++ coefficientRest (rowFor t p) (rowOf t p) pg p i
 
 -- the value is coordinate x step / 256 as f32; q is a point
 abbrev pub valueIn : List ℕ → List ℤ → ℕ → Float
 valueIn row q i = over256 (getD q i (pos 0) *ℤ pos (stepOf row))
 
-abbrev pub valueAt : List ℕ → List ℕ → ℕ → ℕ → Float
-valueAt t pg p i = valueIn (rowFor t p) (pointAt t pg p) i
+abbrev pub valueAt : ℕ → List ℕ → List ℕ → ℕ → ℕ → Float
+valueAt mode t pg p i = valueIn (rowFor t p) (pointAt mode t pg p) i
 
 -- sound and mended carry a value; the other three none
 abbrev pub carried : Judged → Float → List Float
@@ -65,15 +70,15 @@ carried (judged.Sound k n) v = v ∷ []
 carried (judged.Mended k n d) v = v ∷ []
 carried judged.Missing v = []
 carried judged.Contested v = []
-carried (judged.Unreadable reason) v = []
+carried (judged.Unreadable why) v = []
 
 -- what the answer j carries of coordinate i
 abbrev pub carriedBy : List ℕ → Judged → ℕ → List Float
 carriedBy row j i = carried j (valueIn row (shown row j) i)
 
 -- what it is to say, and the value that it carries; a refusal carries none
-abbrev pub coefficientSays : List ℕ → List ℕ → ℕ → ℕ → List ℕ
-coefficientSays t pg p i = firstOf (coefficientChecks t pg p i) (told (judgeAt t pg p))
+abbrev pub coefficientSays : ℕ → List ℕ → List ℕ → ℕ → ℕ → List ℕ
+coefficientSays mode t pg p i = firstOf (coefficientChecks mode t pg p i) (told (judgeAt mode t pg p))
 
-abbrev pub coefficientCarries : List ℕ → List ℕ → ℕ → ℕ → List Float
-coefficientCarries t pg p i = leaves (coefficientChecks t pg p i) (carriedBy (rowFor t p) (judgeAt t pg p) i) []
+abbrev pub coefficientCarries : ℕ → List ℕ → List ℕ → ℕ → ℕ → List Float
+coefficientCarries mode t pg p i = leaves (coefficientChecks mode t pg p i) (carriedBy (rowFor t p) (judgeAt mode t pg p) i) []

@@ -8,7 +8,7 @@ use mathlib.Core.Bool.{Bool, true, false, not, _&&_}
 use lib.Dec.{eqb, ltb}
 use lib.ListN.{length, take, drop, replicate}
 use Rattle.answers.specs.Checks.{Check, anyOf, pick, firstOf, leaves, failsOf}
-use Rattle.tables.specs.Table.{placesIn, tableChecks, placeCheck, placeChecks, noSuchPlace, rowOf}
+use Rattle.tables.specs.Table.{placesIn, tableChecks, placeCheck, noSuchPlace, rowOf}
 use Rattle.records.specs.Record.{recordLength, recordCheck, placeIn, rowIn, sameBytes}
 use Rattle.layout.specs.Layout.{Cell, pageLengthCheck, cellAt, setCell, emptyPage}
 
@@ -68,10 +68,6 @@ cellCheckAt t pg p = record { number = 12; values = p ∷ []; fails = badAt t pg
 -- of a table and a page: 7, 4
 abbrev pub pageChecks : List ℕ → List ℕ → List Check
 pageChecks t pg = tableChecks t ++ (pageCheck t pg ∷ [])
-
--- of a table, a place and a page: 7, 8, 4
-abbrev pub lookChecks : List ℕ → List ℕ → ℕ → List Check
-lookChecks t pg p = placeChecks t p ++ (pageCheck t pg ∷ [])
 
 -- ---- the call take
 -- 9: row byte not the row of the record's place

@@ -1,5 +1,24 @@
 // The page as definitions and laws (docs/RULES.md, "The page"). No function stands here: `page` has the calls. The
-// answer of a cell, which both speak of, is declared here.
+// mode and the answer of a cell, which both speak of, are declared here.
+
+// What a reading call is given. Any other number than these two is refused.
+pub struct Mode(pub usize);
+
+pub const PLAIN: usize = 0;
+
+pub const MENDING: usize = 1;
+
+// Why a held record cannot be read.
+pub enum Reason {
+    // 10: radius number not in the row
+    NoSuchRadius,
+    // 14: codeword 2^b or more
+    TooWide,
+    // 6: in plain mode, codeword past the end, with its distance
+    PastEnd { distance: u64 },
+    // 15: an empty shape, also after mending
+    EmptyShape,
+}
 
 // What the cell of a place is judged to be: one of the five answers.
 pub enum Judged {
@@ -16,8 +35,5 @@ pub enum Judged {
     },
     Missing,
     Contested,
-    // with its reason
-    Unreadable {
-        reason: u32,
-    },
+    Unreadable(Reason),
 }

@@ -7,7 +7,7 @@ use Rattle.enumeration.specs.Enumerations.{selectedBy}
 use Rattle.tables.specs.Row.{byteOf, enumerationOf, badRadius, badRadii, badRow}
 use Rattle.tables.specs.Table.{rowAt, placesBefore, rowsBefore}
 use Rattle.buffers.specs.Joined.{joined}
-use Rattle.text.specs.Text.{decimal, digitsOf}
+use Rattle.wording.specs.Text.{decimal, digitsOf}
 use Rattle.runs.specs.File.{eachFour}
 use Rattle.runs.specs.Run.{coordinatesBefore}
 use lib.Ieee.{ofBits, ofFields, odd, toBits, lt}

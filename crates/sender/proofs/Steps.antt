@@ -20,7 +20,7 @@ use Rattle.tables.proofs.Good.{good-place}
 use Rattle.tables.proofs.Seven.{table-numbered, room-tells}
 use Rattle.tables.proofs.Walking.{first-place}
 use Rattle.tables.specs.Table.{rowsOf, wrongSize, tableRoom, placesIn, rowCheck, tableChecks, checkSays, Good}
-use Rattle.text.specs.Text.{refusedText}
+use Rattle.wording.specs.Text.{refusedText}
 use Rattle.runs.proofs.Judging.{run-numbered}
 use Rattle.runs.proofs.Positions.{before-to, ends-within}
 use Rattle.runs.specs.Run.{coordinatesIn}

@@ -4,7 +4,7 @@ use mathlib.Core.List.{[], _++_}
 use mathlib.Core.Path.{_≡_}
 use lib.ListN.{take}
 use Rattle.tables.specs.Example.{wholeCase}
-use Rattle.text.specs.Text.{ascii}
+use Rattle.wording.specs.Text.{ascii}
 use Rattle.runs.specs.Example.{three, unusable}
 use Rattle.sender.specs.Prints.{senderPrints}
 

@@ -5,7 +5,7 @@ use mathlib.Core.List.{List, []}
 use lib.ListN.{replicate}
 use Rattle.answers.specs.Checks.{pick, anyOf, failsOf}
 use Rattle.answers.specs.Refusals.{printed}
-use Rattle.text.specs.Text.{refusedText}
+use Rattle.wording.specs.Text.{refusedText}
 use Rattle.runs.specs.File.{runOf}
 use Rattle.runs.specs.Sending.{recordsLength, sendChecks, sendSays}
 

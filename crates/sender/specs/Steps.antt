@@ -9,7 +9,7 @@ use lib.ListN.{length, take}
 use Rattle.answers.specs.Refusals.{meaning, printed}
 use Rattle.answers.specs.declared.Refusal.{Refusal}
 use Rattle.tables.specs.Table.{tableRoom, checkSays, Good}
-use Rattle.text.specs.Text.{refusedText}
+use Rattle.wording.specs.Text.{refusedText}
 use Rattle.runs.specs.Run.{coordinatesIn}
 use Rattle.runs.specs.Sending.{recordsLength, recordsOf, sendSays, sendLeaves}
 use Rattle.runs.specs.File.{runOf, runRoom}

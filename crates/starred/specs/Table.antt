@@ -14,8 +14,10 @@ use Rattle.shell.specs.Shell.{countSays}
 use Rattle.enumeration.specs.Enumerations.{selectedBy}
 use Rattle.enumeration.specs.Example.{triple}
 use Rattle.layout.specs.Layout.{Cell}
+use Rattle.rules.specs.Modes.{plain, mending}
 use Rattle.rules.specs.Judging.{judge}
 use Rattle.rules.specs.declared.Judged.the-variants as judged
+use Rattle.rules.specs.declared.Reason.the-variants as reason
 use Rattle.tables.specs.Example.{wholeCase, twoRows, ofShell}
 use Rattle.tables.specs.Table.{rowAt}
 use Rattle.indexing.specs.Calls.{indexSays, pointSays, pointLeaves}
@@ -63,10 +65,13 @@ pub record Table : Type 0 where
   -- mends to 12
   pub star-bits-total : selectedBy 2 .total 2 4 ≡ 20
   pub star-bits-width : width (selectedBy 2 .total 2 4) ≡ 5
-  pub star-bits-12-to-15 : map (λ (n : ℕ). judge bitRow (held-codeword n)) (12 ∷ 13 ∷ 14 ∷ 15 ∷ []) ≡ replicate 4 (judged.Unreadable 15)
-  pub star-bits-28 : judge bitRow (held-codeword 28) ≡ judged.Unreadable 15
-  pub bits-27 : judge bitRow (held-codeword 27) ≡ judged.Mended 4 11 7
-  pub bits-16 : judge bitRow (held-codeword 16) ≡ judged.Sound 4 16
+  pub star-bits-12-to-15 : map (λ (n : ℕ). judge mending bitRow (held-codeword n)) (12 ∷ 13 ∷ 14 ∷ 15 ∷ []) ≡ replicate 4 (judged.Unreadable reason.EmptyShape)
+  pub star-bits-28 : judge mending bitRow (held-codeword 28) ≡ judged.Unreadable reason.EmptyShape
+  -- in plain mode 28 is 8 past the end, and 12 has an empty shape all the same
+  pub plain-bits-28 : judge plain bitRow (held-codeword 28) ≡ judged.Unreadable (reason.PastEnd 8)
+  pub plain-bits-12 : judge plain bitRow (held-codeword 12) ≡ judged.Unreadable reason.EmptyShape
+  pub bits-27 : judge mending bitRow (held-codeword 27) ≡ judged.Mended 4 11 7
+  pub bits-16 : judge mending bitRow (held-codeword 16) ≡ judged.Sound 4 16
   pub bits-index-16 : indexSays 2 2 4 (pos 0 ∷ pos 4 ∷ []) ≡ 0 ∷ 16 ∷ []
   pub bits-point-11 : pointLeaves 2 2 4 11 (take 2 buffer) ≡ negℤ (pos 3) ∷ negℤ (pos 1) ∷ []
   pub bits-point-12 : pointSays 2 2 4 12 (take 2 buffer) ≡ 15 ∷ []

@@ -15,8 +15,8 @@ use lib.Seq.{take-suc, take-length}
 use lib.Signed.{ltZ}
 use Rattle.buffers.specs.Written.{Wrote}
 use Rattle.buffers.proofs.Writing.{wrote-then, wrote-to}
-use Rattle.text.specs.Text.{ascii, digit, decimal, integer, spaced, line, word}
-use Rattle.text.proofs.Decimal.{decimal-one, decimal-more, decimal-size}
+use Rattle.wording.specs.Text.{ascii, digit, decimal, integer, spaced, line, word}
+use Rattle.wording.proofs.Decimal.{decimal-one, decimal-more, decimal-size}
 
 -- ---- decimal numbers of 64 bits: one digit, or those of the tenth and one more
 pub digit-written : {held x : List ℕ} {at r : ℕ} (n : ℕ) → n < 10 → Wrote held at (digit n ∷ []) 1 r x → Wrote held at (decimal n) 20 r x

@@ -127,7 +127,7 @@ static struct reading reading_alone(const struct table *table, uint64_t place, c
 {
     uint8_t cell[CELL_SIZE] = {STATE_HELD};
     write_record(cell + AT_RECORD, place, row_of(table, place), record[AT_RADIUS_NUMBER], codeword_of(record));
-    return read_cell(table, place, cell);
+    return read_cell(MENDING_MODE, table, place, cell);
 }
 
 static void tell_sound(const struct table *table, uint64_t place, const uint8_t *record)
@@ -197,7 +197,7 @@ static void count_shown(struct reading reading, uint64_t codeword)
     const uint64_t total = total_of(reading.shell), b = width(total);
     const int is_mended = reading.word == MENDED;
     int32_t point[MOST_LENGTH];
-    point_shown(reading, point);
+    write_point(reading, point);
     counted.of_length[reading.word][reading.shell.length]++;
     counted.of_width[reading.word][b]++;
     count_if(reading.shell.radius == MOST_RADIUS, is_mended ? RADIUS_32_MENDED : RADIUS_32_SOUND);

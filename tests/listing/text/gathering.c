@@ -55,9 +55,10 @@ void cell_of(const struct gathering *from, uint64_t place, uint8_t *cell)
         cell[AT_RECORD + i] = is_empty || is_contested ? 0 : from->came[place].first[i];
 }
 
+/* A listing asks for mending. */
 struct reading reading_of(const struct table *table, const struct gathering *from, uint64_t place)
 {
     uint8_t cell[CELL_SIZE];
     cell_of(from, place, cell);
-    return read_cell(table, place, cell);
+    return read_cell(MENDING_MODE, table, place, cell);
 }

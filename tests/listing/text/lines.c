@@ -4,20 +4,11 @@
 
 #include <stdio.h>
 
-/* The column "what is written" under "Reading a place". */
-void point_shown(struct reading reading, int32_t *point)
-{
-    for (int i = 0; i < MOST_LENGTH; i++)
-        point[i] = 0;
-    if (reading.word == SOUND || reading.word == MENDED)
-        point_of(reading.shell, reading.index, point);
-}
-
 /* "place, answer, reason or distance (0 where there is neither), then the l coordinates of the point or l zeros". */
 static void print_place(uint64_t place, struct reading reading, uint64_t length)
 {
     int32_t point[MOST_LENGTH];
-    point_shown(reading, point);
+    write_point(reading, point);
     printf("%lu %s %lu", place, reading_words[reading.word], reading.word == MENDED ? reading.distance : reading.reason);
     for (uint64_t i = 0; i < length; i++)
         printf(" %d", point[i]);

@@ -1,4 +1,5 @@
-/* One comparison of read, of coefficient or of the tally with the rules in rules/page.c, whose answer is returned. */
+/* One comparison of read, of coefficient, of the tally or of lines with the rules in rules/asking.c and rules/lines.c,
+   whose answer is returned. */
 
 #include "../kinds/lent_calls.h"
 #include "../kinds/page_kinds.h"
@@ -26,11 +27,21 @@ struct list compare_coefficient(const struct question *question)
     return expected;
 }
 
-struct list compare_tally(const struct table *table, const struct page *page)
+struct list compare_tally(uint64_t mode, const struct table *table, const struct page *page)
 {
-    const struct list expected = tally(table, page);
-    compared.calls_of_page += expect_tally("probe_tally", probe_tally, table, page, expected);
-    note_tally(table, page, expected);
+    const struct list expected = tally(mode, table, page);
+    compared.calls_of_page += expect_tally("probe_tally", probe_tally, mode, table, page, expected);
+    note_tally(mode, table, page, expected);
     note(as_answer((uint32_t)expected.items[0]), &compared.tallies);
+    return expected;
+}
+
+struct list compare_lines(const struct question *question)
+{
+    static struct written written;
+    const struct list expected = lines_from(question, &written);
+    compared.calls_of_page += expect_lines("probe_lines", probe_lines, question, expected, &written);
+    note_lines(question, expected);
+    note(as_answer((uint32_t)expected.items[0]), &compared.lines);
     return expected;
 }

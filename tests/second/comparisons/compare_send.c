@@ -29,18 +29,27 @@ static void hold(const struct table *table, const char *what, uint64_t wanted, u
     differ(wanted, got);
 }
 
-/* One place of the page that was received: sound, with the point of the program's own quantizer. And quantize writes
-   this very record. */
+/* One place of the page that was received: sound in each mode, with the point of the program's own quantizer. */
+static void compare_point_received(uint64_t mode, const struct quantizing *made, const struct table *table, const uint8_t *page,
+                                   uint64_t page_size, uint64_t place)
+{
+    int32_t point[MOST_LENGTH];
+    const uint64_t length = made->shell.length;
+    for (uint64_t item = 0; item < 2; item++)
+        hold(table, item == 0 ? "refusal of read" : "answer of read", item == 0 ? 0 : SOUND,
+             probe_read(mode, table->bytes, table->size, page, page_size, place, point, length, item));
+    for (uint64_t i = 0; i < length; i++)
+        hold(table, "coordinate, as 64 bits,", (uint64_t)made->point[i], (uint64_t)point[i]);
+}
+
+/* And quantize writes this very record. */
 static void compare_received(const struct sending *sending, const uint8_t *page, uint64_t page_size, uint64_t place)
 {
     const struct table *table = &sending->table;
     const struct vector vector = vector_at(sending, place);
     const struct quantizing made = quantize(&vector);
-    int32_t point[MOST_LENGTH];
-    hold(table, "refusal of read", 0, probe_read(table->bytes, table->size, page, page_size, place, point, vector.length, 0));
-    hold(table, "answer of read", SOUND, probe_read(table->bytes, table->size, page, page_size, place, point, vector.length, 1));
-    for (uint64_t i = 0; i < vector.length; i++)
-        hold(table, "coordinate, as 64 bits,", (uint64_t)made.point[i], (uint64_t)point[i]);
+    for (uint64_t mode = 0; mode < MODES; mode++)
+        compare_point_received(mode, &made, table, page, page_size, place);
     expect_quantize(&vector, &made.answer);
 }
 
@@ -53,6 +62,7 @@ void compare_send_received(const struct sending *sending)
     own_figure("refusal of a page that is right", compare_send(sending), 0);
     __builtin_memset(page, 0, size);
     hold(table, "refused takes", 0, probe_collect(table->bytes, table->size, page, size, expected.records, sending->buffer_length));
-    hold(table, "sound places", places, probe_tally(table->bytes, table->size, page, size, 1 + SOUND));
+    for (uint64_t mode = 0; mode < MODES; mode++)
+        hold(table, "sound places", places, probe_tally(mode, table->bytes, table->size, page, size, 1 + SOUND));
     compare_received(sending, page, size, some_place(table));
 }

@@ -20,7 +20,9 @@ struct comparisons {
     uint64_t places;
     uint64_t coefficients;
     uint64_t tallies;
-    uint64_t calls_of_page; /* how many calls the last five took */
+    uint64_t lines;         /* calls of lines that are answered */
+    uint64_t modes;         /* questions in both modes that are answered */
+    uint64_t calls_of_page; /* how many calls the last seven took */
     uint64_t sends;
     uint64_t refusals[MOST_REFUSAL + 1];
     uint64_t of_index[MOST_REFUSAL + 1]; /* of these those of index, and 0 for what it answers */
@@ -44,10 +46,19 @@ void note(uint64_t expected, uint64_t *kind);
 struct list compare_take(const struct table *table, struct page *page, const struct arrival *arrival);
 uint64_t compare_run(const struct table *table, struct page *page, const struct arrival *run);
 
-/* compare_reading.c: one comparison of read, coefficient or the tally */
+/* compare_reading.c: one comparison of read, coefficient, the tally or lines */
 struct list compare_read(const struct question *question);
 struct list compare_coefficient(const struct question *question);
-struct list compare_tally(const struct table *table, const struct page *page);
+struct list compare_tally(uint64_t mode, const struct table *table, const struct page *page);
+struct list compare_lines(const struct question *question);
+
+/* modes.c: the same in both modes, whatever mode the question has, and held against each other; and lengths of a buffer
+   for lines */
+void compare_reads(const struct question *question);
+void compare_coefficients(const struct question *question);
+void compare_both_tallies(const struct table *table, const struct page *page);
+void compare_both_lines(const struct question *question);
+uint64_t text_length_by_chance(void);
 
 /* compare_send.c: one comparison of send with the rules, whose refusal is returned; and of a page that is not
    refused, with what its receiver has */
@@ -73,6 +84,7 @@ void compare_vectors(void);
 void compare_checks(void);
 void compare_pages(void);
 void compare_empty_shapes(void);
+void compare_small_shells(void);
 void compare_takes(void);
 void compare_runs(void);
 void compare_places(void);

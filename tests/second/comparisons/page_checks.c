@@ -16,40 +16,79 @@ static uint64_t take_of(const struct case_of_page *of)
     return compare_take(&of->table, &page, &of->arrival).items[0];
 }
 
-static uint64_t read_of(const struct case_of_page *of)
+static uint64_t read_of(uint64_t mode, const struct case_of_page *of)
 {
-    return compare_read(&(struct question){&of->table, &page, of->place, of->out_length}).items[0];
+    return compare_read(&(struct question){mode, &of->table, &page, of->place, of->out_length}).items[0];
 }
 
-static uint64_t coefficient_of(const struct case_of_page *of)
+static uint64_t coefficient_of(uint64_t mode, const struct case_of_page *of)
 {
-    return compare_coefficient(&(struct question){&of->table, &page, of->place, of->coordinate}).items[0];
+    return compare_coefficient(&(struct question){mode, &of->table, &page, of->place, of->coordinate}).items[0];
 }
 
-static uint64_t tally_of(const struct case_of_page *of)
+static uint64_t tally_of(uint64_t mode, const struct case_of_page *of)
 {
-    return compare_tally(&of->table, &page).items[0];
+    return compare_tally(mode, &of->table, &page).items[0];
 }
 
-/* The order of each call, as "take | 7, 4, 8, 9, 12". Take is last: it may change the page. */
-static void compare_set(const struct case_of_page *wrong, int set)
+static uint64_t lines_of(uint64_t mode, const struct case_of_page *of, uint64_t length)
+{
+    return compare_lines(&(struct question){mode, &of->table, &page, of->place, length}).items[0];
+}
+
+/* Each call in both modes, and without one. */
+static const uint64_t any_mode[] = {PLAIN_MODE, MENDING_MODE, MODES};
+
+static uint64_t mode_at(uint64_t number)
+{
+    return any_mode[number] < MODES ? any_mode[number] : no_mode_by_chance();
+}
+
+/* Where there is no mode, 16 comes first. */
+static uint64_t with_mode(uint64_t mode, uint64_t refusal)
+{
+    return mode < MODES ? refusal : 16;
+}
+
+/* The order of each call but take, as "tally | 16, 7, 4, 12". */
+static void compare_set_in(uint64_t mode, const struct case_of_page *wrong, int set)
 {
     const uint64_t cell = set & WRONG_CELL ? 12 : 0, cell_or_13 = set & WRONG_COORDINATE ? 13 : cell;
     const uint64_t lengths = set & (WRONG_PAGE | WRONG_LENGTH) ? 4 : cell;
     const uint64_t page_alone = set & WRONG_PAGE ? 4 : cell_or_13, table = set & WRONG_TABLE ? 7 : 0;
     const uint64_t of_read = set & WRONG_PLACE ? 8 : lengths, of_coefficient = set & WRONG_PLACE ? 8 : page_alone;
-    own_figure("refusal of a reading with faults", read_of(wrong), table ? table : of_read);
-    own_figure("refusal of a coefficient with faults", coefficient_of(wrong), table ? table : of_coefficient);
-    own_figure("refusal of a tally with faults", tally_of(wrong), table ? table : set & WRONG_PAGE ? 4 : cell);
+    const uint64_t of_tally = set & WRONG_PAGE ? 4 : cell;
+    const uint64_t text = set & WRONG_LENGTH ? chance_below(LINE_SPACE) : LINE_SPACE + chance_below(LINE_SPACE);
+    own_figure("refusal of a reading with faults", read_of(mode, wrong), with_mode(mode, table ? table : of_read));
+    own_figure("refusal of a coefficient with faults", coefficient_of(mode, wrong),
+               with_mode(mode, table ? table : of_coefficient));
+    own_figure("refusal of a tally with faults", tally_of(mode, wrong), with_mode(mode, table ? table : of_tally));
+    own_figure("refusal of lines with faults", lines_of(mode, wrong, text), with_mode(mode, table ? table : of_read));
+}
+
+/* Take is last: it may change the page. */
+static void compare_set(const struct case_of_page *wrong, int set)
+{
+    for (uint64_t i = 0; i < ENTRIES(any_mode); i++)
+        compare_set_in(mode_at(i), wrong, set);
     own_figure("refusal of a take with faults", take_of(wrong), refusal_of_take(set));
+}
+
+static void compare_modes(const struct case_of_page *of, uint64_t text_length)
+{
+    for (uint64_t i = 0; i < ENTRIES(any_mode); i++) {
+        const uint64_t mode = mode_at(i);
+        read_of(mode, of);
+        coefficient_of(mode, of);
+        tally_of(mode, of);
+        lines_of(mode, of, text_length);
+    }
 }
 
 /* Take is last here too. */
 static void compare_state(const struct case_of_page *right)
 {
-    read_of(right);
-    coefficient_of(right);
-    tally_of(right);
+    compare_modes(right, LINE_SPACE * (1 + chance_below(2)));
     take_of(right);
 }
 
@@ -58,9 +97,7 @@ static void compare_all_calls(const struct case_of_page *of)
     struct arrival run = {.length = chance_below(MOST_RUN + 1)};
     for (uint64_t i = 0; i < run.length; i++)
         run.bytes[i] = of->arrival.bytes[i % RECORD_SIZE];
-    read_of(of);
-    coefficient_of(of);
-    tally_of(of);
+    compare_modes(of, text_length_by_chance());
     take_of(of);
     compare_run(&of->table, &page, &run);
 }
@@ -120,7 +157,7 @@ static void compare_lengths(void)
             const uint64_t more = length > MOST_OUTPUT ? cut[length - MOST_OUTPUT - 1] : 0;
             of.out_length = more ? right.out_length + more : length;
             of.arrival.length = more ? RECORD_SIZE + more : length;
-            read_of(&of);
+            read_of(length % MODES, &of);
             take_of(&of);
         }
     }

@@ -1,6 +1,6 @@
 /* The page: the whole case of docs/RULES.md, "Worked cases", also with codeword 20, and the same in rows of the other
-   selectors; empty shapes; and then all that is compared by chance, in the files that are named so. The draws begin
-   anew here, so that they do not depend on the comparisons before. */
+   selectors, in both modes; empty shapes; every codeword of small shells; and then all that is compared by chance, in
+   the files that are named so. The draws begin anew here, so that they do not depend on the comparisons before. */
 
 #include "../kinds/page_kinds.h"
 #include "comparisons.h"
@@ -8,13 +8,13 @@
 #include <stdio.h>
 #include <string.h>
 
-enum { SEED = 4096 };
+enum { SEED = 4096, LEAST_IN_BOTH_MODES = 1500000, LEAST_LINES = 150000 };
 
-/* `records.bin`, what the page holds then, and how its places are read by each selector; last place 1 with codeword
-   20. */
+/* `records.bin`, what the page holds then, and how its places are read by each selector in mending mode; last place 1
+   with codeword 20. In plain mode the mended ones are unreadable 6. */
 static const uint8_t records_bin[] = {0, 0, 0, 1, 0, 0, 0, 0x05, 0, 1, 0, 1, 0, 0, 0, 0x12};
 static const uint8_t page_wanted[] = {1, 0, 0, 0, 1, 0, 0, 0, 0x05, 1, 0, 1, 0, 1, 0, 0, 0, 0x12};
-static const uint64_t tally_wanted[ITEMS] = {0, 1, 1, 0, 0, 0};
+static const uint64_t tally_wanted[MODES][ITEMS] = {[PLAIN_MODE] = {0, 1, 0, 0, 0, 1}, [MENDING_MODE] = {0, 1, 1, 0, 0, 0}};
 static const struct {
     struct list list;
     int32_t point[3];
@@ -35,27 +35,51 @@ enum { PLACES = 2, WITH_CODEWORD_20 = 2, LENGTH = 3 };
 static struct page page;
 static struct table table; /* of the whole case, with a selector */
 
-static void hold_list(const char *what, struct list list, uint64_t number)
+/* What is wanted in a mode. */
+static struct list wanted_in(uint64_t mode, uint64_t number)
 {
-    own_figure(what, memcmp(&list, &wanted[table.bytes[AT_SELECTOR]][number].list, sizeof list) != 0, 0);
+    const struct list mending = wanted[table.bytes[AT_SELECTOR]][number].list;
+    if (mode == PLAIN_MODE && mending.items[1] == MENDED)
+        return (struct list){{0, UNREADABLE, 6, mending.items[3]}};
+    return mending;
 }
 
-/* One place of the whole case, as a whole and by its coefficients: it is read as what has this number. */
-static void compare_whole_place(uint64_t place, uint64_t number)
+static void hold_list(const char *what, uint64_t mode, struct list list, uint64_t number)
+{
+    const struct list in_mode = wanted_in(mode, number);
+    own_figure(what, memcmp(&list, &in_mode, sizeof list) != 0, 0);
+}
+
+/* One place of the whole case in one mode, by the program's own rules: it is read as what has this number. */
+static void hold_place(uint64_t mode, uint64_t place, uint64_t number)
 {
     const uint8_t selector = table.bytes[AT_SELECTOR];
-    struct question question = {&table, &page, place, LENGTH};
+    const int is_shown = wanted_in(mode, number).items[1] != UNREADABLE;
+    struct question question = {mode, &table, &page, place, LENGTH};
     int32_t point[MOST_LENGTH];
     uint32_t bits;
-    hold_list("answer of the whole case", read_place(&question, point), number);
-    own_figure("point of the whole case", memcmp(point, wanted[selector][number].point, LENGTH * sizeof *point) != 0, 0);
-    compare_read(&question);
+    hold_list("answer of the whole case", mode, read_place(&question, point), number);
     for (question.number = 0; question.number < LENGTH; question.number++) {
-        hold_list("answer of a coefficient of the whole case", coefficient(&question, &bits), number);
-        own_figure("value of a coefficient of the whole case", bits, wanted[selector][number].values[question.number]);
-        compare_coefficient(&question);
+        const uint64_t coordinate = (uint64_t)wanted[selector][number].point[question.number];
+        own_figure("point of the whole case", (uint64_t)point[question.number], is_shown ? coordinate : 0);
+        hold_list("answer of a coefficient of the whole case", mode, coefficient(&question, &bits), number);
+        own_figure("value of a coefficient of the whole case", bits,
+                   is_shown ? wanted[selector][number].values[question.number] : 0);
     }
-    own_figure("refusal at the length in the whole case", compare_coefficient(&question).items[0], 13);
+    own_figure("refusal at the length in the whole case", coefficient(&question, &bits).items[0], 13);
+}
+
+/* As a whole and by its coefficients, one past the last of these too. */
+static void compare_whole_place(uint64_t place, uint64_t number)
+{
+    struct question question = {0, &table, &page, place, LENGTH};
+    for (uint64_t mode = 0; mode < MODES; mode++)
+        hold_place(mode, place, number);
+    compare_reads(&question);
+    for (question.number = 0; question.number <= LENGTH; question.number++)
+        compare_coefficients(&question);
+    question.number = LINE_SPACE;
+    compare_both_lines(&question);
 }
 
 /* The whole case holds the program's own rules to docs/RULES.md too. */
@@ -69,7 +93,10 @@ static void compare_whole_case(void)
     own_figure("page of the whole case", memcmp(cell_at(&page, 0), page_wanted, sizeof page_wanted) != 0, 0);
     for (uint64_t place = 0; place < PLACES; place++)
         compare_whole_place(place, place);
-    own_figure("tally of the whole case", memcmp(compare_tally(&table, &page).items, tally_wanted, sizeof tally_wanted) != 0, 0);
+    for (uint64_t mode = 0; mode < MODES; mode++) {
+        const struct list list = compare_tally(mode, &table, &page);
+        own_figure("tally of the whole case", memcmp(list.items, tally_wanted[mode], sizeof list.items) != 0, 0);
+    }
 }
 
 static void compare_codeword_20(void)
@@ -91,13 +118,17 @@ void compare_pages(void)
         compare_codeword_20();
     }
     compare_empty_shapes();
+    compare_small_shells();
     compare_takes();
     compare_runs();
     compare_places();
     compare_tallies();
     compare_page_checks();
     require_page_kinds();
+    require(compared.modes, LEAST_IN_BOTH_MODES, "answers of a reader", "in both modes");
+    require(compared.lines, LEAST_LINES, "calls of lines", "that are answered");
     printf("pages: %lu takes, %lu runs, %lu places, ", compared.takes, compared.runs, compared.places);
-    printf("%lu coefficients and %lu tallies answered, by %lu calls\n", compared.coefficients, compared.tallies,
-           compared.calls_of_page);
+    printf("%lu coefficients, %lu tallies and %lu calls of lines answered, by %lu calls; ", compared.coefficients,
+           compared.tallies, compared.lines, compared.calls_of_page);
+    printf("%lu answers of a reader in both modes\n", compared.modes);
 }

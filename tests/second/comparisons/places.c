@@ -1,13 +1,13 @@
-/* Reading places and single coefficients: in every usable shell and in each enumeration the codewords beside which the
-   answer changes, those of empty shapes, and others; and any cells, places, lengths and coordinates by chance. See
-   docs/RULES.md, "The page". */
+/* Reading places, single coefficients and lines in both modes: in every usable shell and in each enumeration the
+   codewords beside which the answer changes, those of empty shapes, and others; and any cells, places, lengths and
+   coordinates by chance. See docs/RULES.md, "The page". */
 
 #include "../draws/page_draws.h"
 #include "comparisons.h"
 
 #include <stdio.h>
 
-enum { TABLES_OF_SHELL = 18, CODEWORDS_OF_SHELL = 20, MORE_IF_EMPTY = 12, TABLES = 1200, QUESTIONS_OF_TABLE = 100 };
+enum { TABLES_OF_SHELL = 20, CODEWORDS_OF_SHELL = 20, MORE_IF_EMPTY = 28, TABLES = 1200, QUESTIONS_OF_TABLE = 100 };
 
 static struct page page;
 
@@ -20,19 +20,21 @@ static uint64_t wrong_coordinate(uint64_t length)
     return chance_below(2) ? past[chance_below(ENTRIES(past))] : cut[chance_below(ENTRIES(cut))] + coordinate;
 }
 
-/* The place as a whole, and coordinates of it: one, or all. */
+/* The place as a whole, its line, and coordinates of it: one, or all; in both modes. */
 static void compare_place(const struct table *table, uint64_t place, int is_all)
 {
     const uint64_t length = row_at(table, place)[AT_LENGTH];
-    compare_read(&(struct question){table, &page, place, length});
+    compare_reads(&(struct question){0, table, &page, place, length});
     if (!is_all)
-        compare_coefficient(&(struct question){table, &page, place, chance_below(length)});
+        compare_coefficients(&(struct question){0, table, &page, place, chance_below(length)});
     for (uint64_t coordinate = 0; is_all && coordinate < length; coordinate++)
-        compare_coefficient(&(struct question){table, &page, place, coordinate});
+        compare_coefficients(&(struct question){0, table, &page, place, coordinate});
+    if (is_all)
+        compare_both_lines(&(struct question){0, table, &page, place, LINE_SPACE});
 }
 
-/* A codeword for number i: those beside which the answer changes, then sound ones, mended ones and those of 2^b or more
-   where there are such, and last, in turn with more of these, those of empty shapes. */
+/* A codeword for number i: those beside which the answer changes, then sound ones, those past the end, mended if any
+   is, and those of 2^b or more where there are such, and last, in turn with more of these, those of empty shapes. */
 static uint64_t codeword_of_number(struct shell shell, uint64_t i)
 {
     const uint64_t total = total_of(shell), power = least_power_from(total);
@@ -40,8 +42,8 @@ static uint64_t codeword_of_number(struct shell shell, uint64_t i)
         return codeword_beside(shell, i);
     if (i >= CODEWORDS_OF_SHELL && i % 2 == 0)
         return empty_codeword(shell);
-    if (i % 3 == 1 && is_any_mended(shell))
-        return mended_codeword(shell);
+    if (i % 3 == 1 && total < power)
+        return is_any_mended(shell) ? mended_codeword(shell) : total + chance_below(power - total);
     if (i % 3 == 2 && power < TWO_TO_32)
         return power + chance_below(TWO_TO_32 - power);
     return next_named(shell, chance_below(total));
@@ -64,7 +66,7 @@ static void compare_codewords(struct shell shell)
         uint8_t cell[CELL_SIZE] = {STATE_HELD};
         write_record(cell + AT_RECORD, place, row, number, codeword_of_number(shell, i));
         set_cell(&page, place, cell);
-        compare_place(&table, place, i % 8 == 0);
+        compare_place(&table, place, i % 16 == 0);
     }
 }
 
@@ -84,8 +86,12 @@ static void compare_question(const struct table *table)
         draw_cell(&page, table, right, 6);
     if (chance_below(24) == 0)
         page.size = wrong_page_size(&page);
-    compare_read(&(struct question){table, &page, place, chance_below(16) ? length : other_than(length, MOST_OUTPUT)});
-    compare_coefficient(&(struct question){table, &page, place, chance_below(8) ? chance_below(length) : wrong_coordinate(length)});
+    const uint64_t out_length = chance_below(16) ? length : other_than(length, MOST_OUTPUT);
+    const uint64_t coordinate = chance_below(8) ? chance_below(length) : wrong_coordinate(length);
+    compare_reads(&(struct question){0, table, &page, place, out_length});
+    compare_coefficients(&(struct question){0, table, &page, place, coordinate});
+    if (chance_below(2))
+        compare_both_lines(&(struct question){0, table, &page, place, text_length_by_chance()});
     page.size = size;
 }
 

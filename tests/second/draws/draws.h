@@ -25,10 +25,12 @@ uint64_t some_place(const struct table *table);
 void place_by_chance(struct vector *vector);
 void coefficients_by_chance(struct vector *vector);
 
-/* others.c: the shells that are usable by the selectors 0 and 1 and not by 2, a place that is not in a table, and
-   another number than the right one */
-enum { LOST_SHELLS = 4 };
+/* others.c: the shells that are usable by the selectors 0 and 1 and not by 2, modes that there are not, a place that is
+   not in a table, and another number than the right one */
+enum { LOST_SHELLS = 4, NO_MODES = 7 };
 extern const struct shell lost_shells[LOST_SHELLS];
+extern const uint64_t no_modes[NO_MODES];
+uint64_t no_mode_by_chance(void);
 uint64_t wrong_place(uint64_t places);
 uint64_t other_than(uint64_t right, uint64_t most);
 

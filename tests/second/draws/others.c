@@ -6,6 +6,14 @@ const struct shell lost_shells[LOST_SHELLS] = {
     {9, 27, PRODUCT_PRODUCT}, {10, 22, PRODUCT_PRODUCT}, {13, 15, PRODUCT_PRODUCT}, {16, 12, PRODUCT_PRODUCT},
 };
 
+const uint64_t no_modes[NO_MODES] = {2, 3, 255, 256, TWO_TO_32, TWO_TO_32 + 1, UINT64_MAX};
+
+/* A mode that there is not, often one that there is where a number is cut. */
+uint64_t no_mode_by_chance(void)
+{
+    return chance_below(8) ? no_modes[chance_below(NO_MODES)] : 2 + chance_below(UINT64_MAX - 2);
+}
+
 /* A place past the end, or one that is in the table only where a number is cut. */
 uint64_t wrong_place(uint64_t places)
 {

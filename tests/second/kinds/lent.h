@@ -68,6 +68,13 @@ void print_taking(const char *call, const struct taking *taking);
 void compare_taking(const char *call, const struct taking *taking, int lent, const struct table_room *table,
                     const struct arrival_room *arrival);
 
+/* lent_question.c: what is lent, by a null pointer where that is asked for and it has no elements; what was asked; and
+   the table and the page after calls that may not write there */
+const uint8_t *lent_table(const struct table *table, const struct table_room *room, int by_null);
+const uint8_t *lent_page(const struct page *page, int by_null);
+void print_question(const char *name, const struct question *question, const char *what);
+void compare_lent(const char *name, const struct question *question, const struct table_room *table);
+
 /* required.c: an error of the test itself where too few of anything were compared */
 void require(uint64_t counted, uint64_t least, const char *things, const char *what);
 void require_number(uint64_t counted, uint64_t least, const char *what, uint64_t number);

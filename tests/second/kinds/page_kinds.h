@@ -4,11 +4,32 @@
 #ifndef SECOND_PAGE_KINDS_H
 #define SECOND_PAGE_KINDS_H
 
+#include "../draws/draws.h"
 #include "../rules/page.h"
 
-/* What a kind is counted for: the calls, the records that take stores in an empty place, and those that it refuses with
-   9. */
-enum page_call { TAKE, COLLECT, READ, COEFFICIENT, TALLY, PAGE_CALLS, STORED = PAGE_CALLS, FOREIGN, COUNTED_FOR };
+/* What a kind is counted for: the calls, those with a mode in mending mode, in plain mode and with a mode that there is
+   not; the records that take stores in an empty place, and those that it refuses with 9. */
+enum page_call {
+    TAKE,
+    COLLECT,
+    READ,
+    COEFFICIENT,
+    TALLY,
+    LINES,
+    PLAIN_READ,
+    PLAIN_COEFFICIENT,
+    PLAIN_TALLY,
+    PLAIN_LINES,
+    PAGE_CALLS,
+    NO_MODE_READ = PAGE_CALLS,
+    NO_MODE_COEFFICIENT,
+    NO_MODE_TALLY,
+    NO_MODE_LINES,
+    STORED,
+    FOREIGN,
+    COUNTED_FOR,
+    CALLS_WITH_MODE = PLAIN_READ - READ
+};
 
 enum page_kind {
     /* what is held where the call looks */
@@ -20,6 +41,9 @@ enum page_kind {
     CELL_14,
     CELL_15,
     CELL_15_PAST_END,
+    CELL_6_AT_END,
+    CELL_6_ABOVE_0,
+    CELL_6_BEFORE_15,
     CODEWORD_0,
     CODEWORD_BEFORE_END,
     CODEWORD_AT_END,
@@ -30,7 +54,7 @@ enum page_kind {
     WIDTH_0_SOUND,
     WIDTH_0_14,
     WIDTH_32_SOUND,
-    WIDTH_32_MENDED,
+    WIDTH_32_PAST_END,
     DISTANCE_PAST_255,
     DISTANCE_PAST_2_24,
     POWER_SOUND,
@@ -88,6 +112,7 @@ enum page_kind {
     REFUSED_9,
     REFUSED_12,
     REFUSED_13,
+    REFUSED_16,
     ROW_0_NAMED,
     ROW_ABOVE_0_NAMED,
     PAGE_SHORT_1,
@@ -109,6 +134,12 @@ enum page_kind {
     CONTESTED_13,
     HELD_13,
     /* two reasons for a refusal */
+    BOTH_16_AND_7,
+    BOTH_16_AND_8,
+    BOTH_16_AND_4,
+    BOTH_16_AND_13,
+    BOTH_16_AND_12,
+    ONLY_16,
     BOTH_7_AND_4,
     BOTH_7_AND_8,
     BOTH_7_AND_9,
@@ -145,6 +176,18 @@ enum page_kind {
     FAULT_AT_FIRST,
     FAULT_AT_LAST,
     FAULTS_SEVERAL,
+    /* lines */
+    ALL_LINES,
+    LINES_TO_LAST,
+    LINES_AS_ROOM,
+    ROOM_255,
+    ROOM_256,
+    ROOM_511,
+    ROOM_CUT,
+    ROOM_FAR,
+    FAULT_BEHIND_FIRST,
+    FAULT_BEHIND_LINES,
+    TEXT_OF_6,
     PAGE_KINDS
 };
 
@@ -163,32 +206,50 @@ struct required {
     uint64_t least;
 };
 
-/* page_kinds.c */
+/* page_names.c: what each kind is wanted for, and its name */
+struct page_name {
+    uint32_t wanted_for; /* the bit 1 << call for each */
+    const char *what;
+};
+extern const char *const page_calls[COUNTED_FOR];
+extern const struct page_name page_names[PAGE_KINDS];
+
+/* page_kinds.c: a call with a mode is noted as the call in mending mode, and the mode then says which it is */
+enum page_call call_in(enum page_call call, uint64_t mode);
+uint64_t mode_of(enum page_call call);
 void note_page(enum page_call call, enum page_kind kind, int is_there);
 void note_fault(enum page_call call, enum fault fault);
 void note_state(enum page_call call, uint8_t state);
 void note_other_byte(uint64_t byte);
 void note_record_length(uint64_t length);
 void note_remainder(uint64_t length);
+void note_no_mode(enum page_call call, uint64_t mode);
 void note_shell(enum page_call call, struct shell shell, enum reading_word word, uint64_t reason);
 void note_selector(enum page_call call, uint64_t selector, enum reading_word word);
-void note_tallied(enum reading_word word, uint64_t counted, uint64_t places);
+void note_tallied(enum page_call call, enum reading_word word, uint64_t counted, uint64_t places);
 void require_page_kinds_of(enum page_call call, struct required *so_far);
 void require_page_kinds(void);
 
-/* page_notes.c: what the cells and the refusals tell */
+/* page_notes.c: what the cells tell, and where a call looks */
 void note_cell(enum page_call call, const struct table *table, uint64_t place, const uint8_t *cell);
 void note_foreign(enum page_call call, const struct table *table, const uint8_t *record);
 void note_where(enum page_call call, const struct table *table, const struct page *page, uint64_t place, struct list expected);
+
+/* refusal_notes.c: what the refusals tell */
+int is_wrong_page(const struct page *page);
 void note_refusal(enum page_call call, const struct table *table, const struct page *page, uint64_t place, struct list expected);
 void note_both(enum page_call call, struct reasons reasons);
+void note_mode(enum page_call call, const struct question *question);
 
-/* call_notes.c: what one comparison of each call tells */
+/* take_notes.c: what one comparison of take or of collect tells */
 void note_take(const struct table *table, const struct page *page, const struct arrival *arrival, const uint8_t *before,
                struct list expected);
 void note_run(const struct table *table, const struct page *page, const struct arrival *run, uint64_t refusals);
+
+/* reading_notes.c: what one comparison of each other call tells */
 void note_reading(enum page_call call, const struct question *question, struct list expected);
 void note_value(const struct question *question, struct list expected, uint32_t bits);
-void note_tally(const struct table *table, const struct page *page, struct list expected);
+void note_tally(uint64_t mode, const struct table *table, const struct page *page, struct list expected);
+void note_lines(const struct question *question, struct list expected);
 
 #endif

@@ -1,5 +1,4 @@
-/* The kinds of comparisons of the page that the cell, the place and the refusal tell. See docs/RULES.md, "The page" and
-   "Refusal numbers". */
+/* The kinds of comparisons of the page that the cell and the place tell. See docs/RULES.md, "The page". */
 
 #include "page_kinds.h"
 
@@ -10,23 +9,27 @@ static void note_codeword(enum page_call call, struct shell shell, uint64_t code
 {
     const uint64_t total = total_of(shell), power = least_power_from(total);
     const int is_sound = reading.word == SOUND, is_mended = reading.word == MENDED, is_power = total == power;
+    const int is_6 = reading.reason == 6, is_past = is_mended || is_6;
     note_shell(call, shell, reading.word, reading.reason);
     note_page(call, CELL_SOUND, is_sound);
     note_page(call, CELL_MENDED, is_mended);
     note_page(call, CELL_14, reading.reason == 14);
     note_page(call, CELL_15, reading.reason == 15 && codeword < total);
     note_page(call, CELL_15_PAST_END, reading.reason == 15 && codeword >= total);
+    note_page(call, CELL_6_AT_END, is_6 && reading.distance == 0);
+    note_page(call, CELL_6_ABOVE_0, is_6 && reading.distance > 0);
+    note_page(call, CELL_6_BEFORE_15, is_6 && !names_point(shell, codeword - power / 2));
     note_page(call, CODEWORD_0, codeword == 0 && total > 1);
     note_page(call, CODEWORD_BEFORE_END, codeword == total - 1 && !is_power);
-    note_page(call, CODEWORD_AT_END, codeword == total && is_mended);
-    note_page(call, CODEWORD_PAST_END, codeword == total + 1 && is_mended);
-    note_page(call, CODEWORD_BEFORE_POWER, codeword == power - 1 && is_mended);
+    note_page(call, CODEWORD_AT_END, codeword == total && is_past);
+    note_page(call, CODEWORD_PAST_END, codeword == total + 1 && is_past);
+    note_page(call, CODEWORD_BEFORE_POWER, codeword == power - 1 && is_past);
     note_page(call, CODEWORD_POWER, codeword == power);
     note_page(call, CODEWORD_LARGEST, codeword == TWO_TO_32 - 1 && power < TWO_TO_32);
     note_page(call, WIDTH_0_SOUND, codeword == 0 && power == 1);
     note_page(call, WIDTH_0_14, codeword == 1 && power == 1);
     note_page(call, WIDTH_32_SOUND, is_sound && power == TWO_TO_32);
-    note_page(call, WIDTH_32_MENDED, is_mended && power == TWO_TO_32);
+    note_page(call, WIDTH_32_PAST_END, is_past && power == TWO_TO_32);
     note_page(call, DISTANCE_PAST_255, reading.distance > 255);
     note_page(call, DISTANCE_PAST_2_24, reading.distance >= 1 << 24);
     note_page(call, POWER_SOUND, codeword == total - 1 && is_power && total > 1);
@@ -39,7 +42,7 @@ static void note_held(enum page_call call, const struct table *table, uint64_t p
     const uint64_t codeword = codeword_of(cell + AT_RECORD), radius_number = cell[AT_RECORD + AT_RADIUS_NUMBER];
     const uint8_t *row = row_at(table, place);
     if (radius_number < row[AT_NUMBER_OF_RADII]) {
-        note_codeword(call, shell_of(row, radius_number), codeword, read_cell(table, place, cell));
+        note_codeword(call, shell_of(row, radius_number), codeword, read_cell(mode_of(call), table, place, cell));
         return;
     }
     note_page(call, CELL_10_AT_NUMBER, radius_number == row[AT_NUMBER_OF_RADII]);
@@ -53,7 +56,7 @@ void note_foreign(enum page_call call, const struct table *table, const uint8_t 
     const uint64_t place = two_bytes(record + AT_PLACE), row = record[AT_ROW], right = row_of(table, place);
     uint8_t cell[CELL_SIZE] = {STATE_HELD};
     write_record(cell + AT_RECORD, place, right, record[AT_RADIUS_NUMBER], codeword_of(record));
-    const struct reading reading = read_cell(table, place, cell);
+    const struct reading reading = read_cell(mode_of(call), table, place, cell);
     note_page(call, OTHER_ROW_ALONE, reading.word == SOUND);
     note_page(call, OTHER_ROW_AND_10, reading.reason == 10);
     note_page(call, OTHER_ROW_AND_14, reading.reason == 14);
@@ -73,7 +76,7 @@ void note_cell(enum page_call call, const struct table *table, uint64_t place, c
     const int is_zeros = memcmp(record, zeros, RECORD_SIZE) == 0, is_other_row = record[AT_ROW] != row_of(table, place);
     note_state(call, state);
     if (!is_at_fault(table, place, cell))
-        note_selector(call, row_at(table, place)[AT_SELECTOR], read_cell(table, place, cell).word);
+        note_selector(call, row_at(table, place)[AT_SELECTOR], read_cell(mode_of(call), table, place, cell).word);
     note_page(call, EMPTY_ZEROS, state == STATE_EMPTY && is_zeros);
     note_page(call, EMPTY_GARBAGE, state == STATE_EMPTY && !is_zeros);
     note_page(call, CONTESTED_ZEROS, state == STATE_CONTESTED && is_zeros);
@@ -111,75 +114,4 @@ void note_where(enum page_call call, const struct table *table, const struct pag
     note_page(call, AT_PAST_255, place > 255);
     note_page(call, OF_1_PLACE, page->places == 1);
     note_page(call, OF_4096_PLACES, page->places == MOST_PLACES);
-}
-
-/* Refusal 7. Where the table is bad, a page of part of a cell, or of none, is wrong too, and so is a
-   place above 4,095. */
-static void note_bad_table(enum page_call call, const struct table *table, const struct page *page, uint64_t place)
-{
-    const struct judgment judgment = judge(table->bytes, table->size);
-    for (enum fault fault = 0; fault < FAULTS; fault++)
-        if (judgment.faults >> fault & 1)
-            note_fault(call, fault);
-    note_page(call, ROW_0_NAMED, judgment.row == 0);
-    note_page(call, ROW_ABOVE_0_NAMED, judgment.row > 0);
-    note_page(call, BOTH_7_AND_4, page->size == 0 || page->size % CELL_SIZE != 0);
-    note_page(call, BOTH_7_AND_8, place >= MOST_PLACES);
-}
-
-/* Refusal 4, as far as it is for the page. */
-static void note_page_size(enum page_call call, const struct page *page)
-{
-    const uint64_t right = CELL_SIZE * page->places;
-    note_page(call, PAGE_SHORT_1, page->size == right - 1);
-    note_page(call, PAGE_LONG_1, page->size == right + 1);
-    note_page(call, PAGE_SHORT_9, page->size == right - CELL_SIZE && page->size > 0);
-    note_page(call, PAGE_LONG_9, page->size == right + CELL_SIZE);
-    note_page(call, NO_PAGE, page->size == 0);
-    note_page(call, PAGE_CUT, page->size == right + 65536 || page->size == right + TWO_TO_32);
-}
-
-/* Refusal 8. */
-static void note_outside(enum page_call call, const struct table *table, const struct page *page, uint64_t place)
-{
-    const uint64_t cuts[] = {256, MOST_PLACES, 65536, TWO_TO_32};
-    int is_cut = 0;
-    for (uint64_t i = 0; i < ENTRIES(cuts); i++)
-        is_cut |= place % cuts[i] < page->places;
-    note_page(call, AT_END, place == page->places);
-    note_page(call, FAR_PAST, place >= TWO_TO_63);
-    note_page(call, CUT_PLACE, is_cut);
-    note_page(call, PAST_BESIDE_FAULT, is_at_fault(table, 0, cell_at(page, 0)));
-}
-
-/* What a call with a place answers by number, and what is behind it. */
-void note_refusal(enum page_call call, const struct table *table, const struct page *page, uint64_t place, struct list expected)
-{
-    const uint64_t refusal = expected.items[0];
-    note_page(call, ANSWERED, refusal == 0);
-    note_page(call, REFUSED_7, refusal == 7);
-    note_page(call, REFUSED_4, refusal == 4);
-    note_page(call, REFUSED_8, refusal == 8);
-    note_page(call, REFUSED_9, refusal == 9);
-    note_page(call, REFUSED_12, refusal == 12);
-    note_page(call, REFUSED_13, refusal == 13);
-    if (refusal == 7)
-        note_bad_table(call, table, page, place);
-    if (refusal == 4)
-        note_page_size(call, page);
-    if (refusal == 8)
-        note_outside(call, table, page, place);
-}
-
-/* Two reasons for a refusal at once, with a good table. */
-void note_both(enum page_call call, struct reasons reasons)
-{
-    note_page(call, BOTH_4_AND_8, reasons.is_4 && reasons.is_8);
-    note_page(call, BOTH_4_AND_9, reasons.is_4 && reasons.is_9);
-    note_page(call, BOTH_4_AND_12, reasons.is_4 && reasons.is_12);
-    note_page(call, BOTH_4_AND_13, reasons.is_4 && reasons.is_13);
-    note_page(call, BOTH_8_AND_9, reasons.is_8 && reasons.is_9);
-    note_page(call, BOTH_8_AND_13, reasons.is_8 && reasons.is_13);
-    note_page(call, BOTH_9_AND_12, reasons.is_9 && reasons.is_12);
-    note_page(call, BOTH_12_AND_13, reasons.is_12 && reasons.is_13);
 }

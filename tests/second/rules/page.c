@@ -1,5 +1,5 @@
-/* The page, by rules of the program's own: what take, collect, read, coefficient and the tally must answer, and what
-   take makes of a cell. See docs/RULES.md, "The page", "Refusal numbers" and "Order of checks". */
+/* The page, by rules of the program's own: how a cell is read, what take and collect must answer, and what take makes
+   of a cell. See docs/RULES.md, "The page", "Refusal numbers" and "Order of checks". */
 
 #include "page.h"
 
@@ -45,8 +45,20 @@ static struct reading unreadable(uint64_t reason)
     return (struct reading){.word = UNREADABLE, .reason = reason};
 }
 
-/* The held record of a place, which has the row of that place: its other fields, judged in the order of the rules. */
-static struct reading read_record(const struct table *table, uint64_t place, const uint8_t *record)
+/* A codeword past the end and below 2^b, in mending mode: 2^(b-1) is subtracted. */
+static struct reading mend(struct shell shell, uint64_t codeword, uint64_t power)
+{
+    const uint64_t left = codeword - power / 2;
+    if (left >= total_of(shell))
+        own_error("a mended index is past the end", shell);
+    if (!names_point(shell, left))
+        return unreadable(15);
+    return (struct reading){.word = MENDED, .shell = shell, .index = left, .distance = distance_of(shell, codeword)};
+}
+
+/* The held record of a place, which has the row of that place: its other fields, judged in the order of the rules. In
+   plain mode nothing is mended, and 6 stands between 14 and 15. */
+static struct reading read_record(uint64_t mode, const struct table *table, uint64_t place, const uint8_t *record)
 {
     const uint64_t codeword = codeword_of(record);
     const uint8_t *row = row_at(table, place);
@@ -56,24 +68,34 @@ static struct reading read_record(const struct table *table, uint64_t place, con
     const uint64_t total = total_of(shell), power = least_power_from(total);
     if (codeword >= power)
         return unreadable(14);
-    const uint64_t left = codeword < total ? codeword : codeword - power / 2;
-    if (left >= total)
-        own_error("a mended index is past the end", shell);
-    if (!names_point(shell, left))
+    if (codeword >= total && mode == PLAIN_MODE)
+        return (struct reading){.word = UNREADABLE, .reason = 6, .distance = distance_of(shell, codeword)};
+    if (codeword >= total)
+        return mend(shell, codeword, power);
+    if (!names_point(shell, codeword))
         return unreadable(15);
-    if (codeword < total)
-        return (struct reading){.word = SOUND, .shell = shell, .index = codeword};
-    return (struct reading){.word = MENDED, .shell = shell, .index = left, .distance = distance_of(shell, codeword)};
+    return (struct reading){.word = SOUND, .shell = shell, .index = codeword};
 }
 
 /* A cell that is not at fault. */
-struct reading read_cell(const struct table *table, uint64_t place, const uint8_t *cell)
+struct reading read_cell(uint64_t mode, const struct table *table, uint64_t place, const uint8_t *cell)
 {
+    own_figure("mode in which a cell is read, of two", mode < MODES, 1);
     if (cell[AT_STATE] == STATE_EMPTY)
         return (struct reading){.word = MISSING};
     if (cell[AT_STATE] == STATE_CONTESTED)
         return (struct reading){.word = CONTESTED};
-    return read_record(table, place, cell + AT_RECORD);
+    return read_record(mode, table, place, cell + AT_RECORD);
+}
+
+/* Whether a cell that is not at fault is held with a codeword from the total to before 2^b: where the modes differ. */
+int is_overflowing(const struct table *table, uint64_t place, const uint8_t *cell)
+{
+    const uint8_t *row = row_at(table, place), *record = cell + AT_RECORD;
+    if (cell[AT_STATE] != STATE_HELD || record[AT_RADIUS_NUMBER] >= row[AT_NUMBER_OF_RADII])
+        return 0;
+    const uint64_t total = total_of(shell_of(row, record[AT_RADIUS_NUMBER])), codeword = codeword_of(record);
+    return codeword >= total && codeword < least_power_from(total);
 }
 
 /* Whether a codeword of the shell is mended: of those past the end what is left runs from the total less 2^(b-1) to
@@ -133,92 +155,4 @@ uint64_t collect_bytes(const struct table *table, struct page *page, const uint8
 uint64_t collect(const struct table *table, struct page *page, const struct arrival *run)
 {
     return collect_bytes(table, page, run->bytes, run->length);
-}
-
-/* The first three checks of read and of coefficient, which begin alike: "7, 8, 4". The output of
-   coefficient is none. */
-static struct list checked(const struct question *question, int has_output)
-{
-    const struct judgment judgment = judge(question->table->bytes, question->table->size);
-    if (judgment.faults)
-        return refused(7, judgment.row);
-    if (question->place >= judgment.places)
-        return refused(8, 0);
-    const uint64_t length = row_at(question->table, question->place)[AT_LENGTH];
-    if (question->page->size != CELL_SIZE * judgment.places || (has_output && question->number != length))
-        return refused(4, 0);
-    return refused(0, 0);
-}
-
-/* The column "what is written" under "Reading a place". */
-static void write_point(struct reading reading, int32_t *point)
-{
-    for (int i = 0; i < MOST_LENGTH; i++)
-        point[i] = 0;
-    if (reading.word == SOUND || reading.word == MENDED)
-        point_of(reading.shell, reading.index, point);
-}
-
-/* 12, or how the cell of a place is read; its point is written, whatever it is. */
-static struct list looked_at(const struct question *question, int32_t *point)
-{
-    const uint8_t *cell = cell_at(question->page, question->place);
-    if (is_at_fault(question->table, question->place, cell))
-        return refused(12, 0);
-    const struct reading reading = read_cell(question->table, question->place, cell);
-    write_point(reading, point);
-    return (struct list){{0, reading.word, reading.reason, reading.distance}};
-}
-
-/* "read | 7, 8, 4, 12". On a refusal nothing is said of the point. */
-struct list read_place(const struct question *question, int32_t *point)
-{
-    const struct list list = checked(question, 1);
-    return list.items[0] != 0 ? list : looked_at(question, point);
-}
-
-/* "coordinate x step / 256, as an f32. The value is exact, and a zero is positive zero": its bits, which
-   must lead back. */
-static uint32_t value_of(int32_t coordinate, uint64_t step)
-{
-    const uint64_t product = magnitude(coordinate) * step;
-    const uint32_t bits = bits_of(product, 8) | (coordinate < 0 ? NEGATIVE : 0);
-    const struct rounding back = nearest(bits);
-    own_figure("256 times a value", back.whole, product);
-    own_figure("way to 256 times a value", back.way, EXACT);
-    return bits;
-}
-
-/* "coefficient | 7, 8, 4, 13, 12". The bits of the value are 0 where there is none. */
-struct list coefficient(const struct question *question, uint32_t *bits)
-{
-    int32_t point[MOST_LENGTH];
-    const struct list list = checked(question, 0);
-    *bits = 0;
-    if (list.items[0] != 0)
-        return list;
-    const uint8_t *row = row_at(question->table, question->place);
-    if (question->number >= row[AT_LENGTH])
-        return refused(13, 0);
-    const struct list answer = looked_at(question, point);
-    if (answer.items[0] == 0)
-        *bits = value_of(point[question->number], two_bytes(row + AT_STEP));
-    return answer;
-}
-
-/* "tally | 7, 4, 12"; 12 names "the lowest such place". */
-struct list tally(const struct table *table, const struct page *page)
-{
-    struct list list = {{0}};
-    const struct judgment judgment = judge(table->bytes, table->size);
-    if (judgment.faults)
-        return refused(7, judgment.row);
-    if (page->size != CELL_SIZE * judgment.places)
-        return refused(4, 0);
-    for (uint64_t place = 0; place < judgment.places; place++) {
-        if (is_at_fault(table, place, cell_at(page, place)))
-            return refused(12, place);
-        list.items[1 + read_cell(table, place, cell_at(page, place)).word]++;
-    }
-    return list;
 }

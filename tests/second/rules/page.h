@@ -21,6 +21,9 @@ enum {
 enum { AT_STATE = 0, AT_RECORD = 1 };
 enum { STATE_EMPTY = 0, STATE_HELD = 1, STATE_CONTESTED = 2 };
 
+/* The modes: whether what is past the end is mended. A call may be given any number, and refuses the others. */
+enum { PLAIN_MODE, MENDING_MODE, MODES };
+
 /* The five answers. */
 enum reading_word { SOUND, MENDED, MISSING, CONTESTED, UNREADABLE, READINGS };
 
@@ -38,12 +41,20 @@ struct arrival {
     uint8_t bytes[MOST_ARRIVAL];
 };
 
-/* What read or coefficient is asked. */
+/* What read, coefficient or lines is asked. */
 struct question {
+    uint64_t mode;
     const struct table *table;
     const struct page *page;
     uint64_t place;
-    uint64_t number; /* read: the length of the output; coefficient: the coordinate */
+    uint64_t number; /* read: the length of the output; coefficient: the coordinate; lines: the length of the buffer */
+};
+
+/* The text that lines writes. */
+enum { LINE_SPACE = 256 /* the room that is asked for each line */, TEXT_ROOM = LINE_SPACE * MOST_PLACES };
+struct written {
+    uint64_t size;
+    uint8_t bytes[TEXT_ROOM];
 };
 
 /* How a cell is read. */
@@ -52,7 +63,7 @@ struct reading {
     uint64_t reason;    /* of an unreadable one, else 0 */
     struct shell shell; /* of a sound or mended one, and the index in it */
     uint64_t index;
-    uint64_t distance; /* of the codeword of a mended one, else 0 */
+    uint64_t distance; /* of the codeword of a mended one, or of one that is unreadable for reason 6, else 0 */
 };
 
 /* copies.c: a page in three copies */
@@ -63,18 +74,27 @@ void copy_page(struct page *to, const struct page *from);
 void set_cell(struct page *page, uint64_t place, const uint8_t *cell);
 const uint8_t *cell_at(const struct page *page, uint64_t place);
 
-/* page.c: what the calls must answer, and make of a page */
+/* page.c: how a cell is read in a mode that there is, and what take and collect must answer, and make of a page */
 extern const char *const reading_words[READINGS];
 uint64_t codeword_of(const uint8_t *record);
 int is_foreign(const struct table *table, const uint8_t *record);
 int is_at_fault(const struct table *table, uint64_t place, const uint8_t *cell);
-struct reading read_cell(const struct table *table, uint64_t place, const uint8_t *cell);
+int is_overflowing(const struct table *table, uint64_t place, const uint8_t *cell);
+struct reading read_cell(uint64_t mode, const struct table *table, uint64_t place, const uint8_t *cell);
 int is_any_mended(struct shell shell);
 struct list take(const struct table *table, struct page *page, const struct arrival *arrival);
 uint64_t collect_bytes(const struct table *table, struct page *page, const uint8_t *bytes, uint64_t size);
 uint64_t collect(const struct table *table, struct page *page, const struct arrival *run);
+
+/* asking.c: what read, coefficient and the tally must answer; the checks and the point of the calls that look */
+struct list check_question(const struct question *question);
+void write_point(struct reading reading, int32_t *point);
 struct list read_place(const struct question *question, int32_t *point);
 struct list coefficient(const struct question *question, uint32_t *bits);
-struct list tally(const struct table *table, const struct page *page);
+struct list tally(uint64_t mode, const struct table *table, const struct page *page);
+
+/* lines.c: what lines must answer, and write */
+uint64_t lines_asked(const struct question *question);
+struct list lines_from(const struct question *question, struct written *written);
 
 #endif

@@ -1,4 +1,4 @@
-// The answer of a cell, in a good row.
+// The answer of a cell, in a good row and a mode.
 use numbering::inner::Found;
 use numbering::inner::Numbering;
 use numbering::inner::Sought;
@@ -12,6 +12,9 @@ use records::inner::codeword_in;
 use records::inner::radius_number_in;
 use rows::inner::row::radii;
 use rules::Judged;
+use rules::Mode;
+use rules::PLAIN;
+use rules::Reason;
 ghost use mathlib.Core.Path.{_≡_};
 ghost use Prim.Native.Nat.{_≤_, _<_};
 ghost use lib.ListN.{length};
@@ -27,24 +30,28 @@ pub struct Seen {
     pub found: Found,
 }
 
-// A codeword from the total on: past the width, mended to an empty shape, or mended.
-fn judge_past(numbering: Numbering, total: u64, n: u64) -> Judged
+// A codeword from the total on: past the width; in plain mode past the end; mended to an empty shape, or mended.
+fn judge_past(mode: Mode, numbering: Numbering, total: u64, n: u64) -> Judged
     requires { ⌜ Usable numbering × (total ≡ totalIn numbering) × (0 < total) × (total ≤ n) ⌝ }
-    ensures { λ r. ⌜ (r ≡ judgeCodeword (namesIn numbering) total (numbering .radius .0) n) × NotSound r ⌝ }
+    ensures { λ r. ⌜ (r ≡ judgeCodeword (mode .0) (namesIn numbering) total (numbering .radius .0) n) × NotSound r ⌝ }
 {
     let b = width(total) as usize;
     if power(b) <= n {
-        return Judged::Unreadable { reason: 14 };
+        return Judged::Unreadable(Reason::TooWide);
+    }
+    let distance = n - total;
+    if mode.0 == PLAIN {
+        return Judged::Unreadable(Reason::PastEnd { distance });
     }
     let index = n - power(b - 1);
     if names(numbering, index) {
         return Judged::Mended {
             radius: numbering.radius.0,
             index,
-            distance: n - total,
+            distance,
         };
     }
-    Judged::Unreadable { reason: 15 }
+    Judged::Unreadable(Reason::EmptyShape)
 }
 
 // An answer that shows no point, or one that is still to be sought.
@@ -58,9 +65,10 @@ fn unseen(judged: Judged) -> Seen
 }
 
 // A codeword of the shell of a radius number. Below the total it is below 2^b too.
-fn judge_codeword(row: &[u8], number: usize, n: u64) -> Seen
+fn judge_codeword(mode: Mode, row: &[u8], number: usize, n: u64) -> Seen
     requires { ⌜ IsRow (now row) × (number < radiiOf (now row)) ⌝ }
-    ensures { λ r. ⌜ (r .judged ≡ judgeIn (now (row .entry)) (radiusAt (now (row .entry)) number) n) × Handed (now (row .entry)) (r .judged) (r .found) ⌝ }
+    ensures { λ r. ⌜ (r .judged ≡ judgeIn (mode .0) (now (row .entry)) (radiusAt (now (row .entry)) number) n)
+        × Handed (now (row .entry)) (r .judged) (r .found) ⌝ }
 {
     let numbering = of_row(row, number);
     let radius = numbering.radius;
@@ -72,27 +80,27 @@ fn judge_codeword(row: &[u8], number: usize, n: u64) -> Seen
             },
             found,
         },
-        Sought::Empty => unseen(Judged::Unreadable { reason: 15 }),
-        Sought::Past { total } => unseen(judge_past(numbering, total, n)),
+        Sought::Empty => unseen(Judged::Unreadable(Reason::EmptyShape)),
+        Sought::Past { total } => unseen(judge_past(mode, numbering, total, n)),
     }
 }
 
 // A held record, in its row.
-fn judge_record(row: &[u8], bytes: &[u8]) -> Seen
+fn judge_record(mode: Mode, row: &[u8], bytes: &[u8]) -> Seen
     requires { ⌜ IsRow (now row) × (length (now bytes) ≡ recordLength) ⌝ }
-    ensures { λ r. ⌜ (r .judged ≡ judgeRecord (now (row .entry)) (now (bytes .entry))) × Handed (now (row .entry)) (r .judged) (r .found) ⌝ }
+    ensures { λ r. ⌜ (r .judged ≡ judgeRecord (mode .0) (now (row .entry)) (now (bytes .entry))) × Handed (now (row .entry)) (r .judged) (r .found) ⌝ }
 {
     let chosen = radius_number_in(bytes);
     if radii(row) <= chosen {
-        return unseen(Judged::Unreadable { reason: 10 });
+        return unseen(Judged::Unreadable(Reason::NoSuchRadius));
     }
-    judge_codeword(row, chosen, codeword_in(bytes))
+    judge_codeword(mode, row, chosen, codeword_in(bytes))
 }
 
 // A cell by its state.
-pub fn judge(row: &[u8], state: u8, bytes: &[u8]) -> Seen
+pub fn judge(mode: Mode, row: &[u8], state: u8, bytes: &[u8]) -> Seen
     requires { ⌜ IsRow (now row) × (length (now bytes) ≡ recordLength) ⌝ }
-    ensures { λ r. ⌜ Sees (now (row .entry)) (record { state = state; bytes = now (bytes .entry) }) r ⌝ }
+    ensures { λ r. ⌜ Sees (mode .0) (now (row .entry)) (record { state = state; bytes = now (bytes .entry) }) r ⌝ }
 {
     if state == 0 {
         return unseen(Judged::Missing);
@@ -100,5 +108,5 @@ pub fn judge(row: &[u8], state: u8, bytes: &[u8]) -> Seen
     if state != 1 {
         return unseen(Judged::Contested);
     }
-    judge_record(row, bytes)
+    judge_record(mode, row, bytes)
 }

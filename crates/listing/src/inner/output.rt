@@ -1,4 +1,4 @@
-// The listing, printed a block at a time. Where one cannot be written, nothing more is printed.
+// The listing, printed a block at a time in mending mode. Where one cannot be written, nothing more is printed.
 use files::inner::printing::print_refused;
 use files::inner::printing::put;
 use page::Tallied;
@@ -7,13 +7,15 @@ use report::Lined;
 use report::Listed;
 use report::last_line;
 use report::lines;
+use rules::MENDING;
+use rules::Mode;
 
 // Prints the page: the lines of its places, and the last line.
 pub fn print_page(table: &[u8], page: &[u8], places: usize, refused: u64) {
     let mut out = io::large_buffer();
     let mut from = 0;
     while from < places {
-        match lines(table, page, from, &mut out) {
+        match lines(Mode(MENDING), table, page, from, &mut out) {
             Listed::Written { to, size } => {
                 if !put(&out[..size]) {
                     return;
@@ -31,7 +33,7 @@ pub fn print_page(table: &[u8], page: &[u8], places: usize, refused: u64) {
 
 // Prints the last line.
 fn print_tally(table: &[u8], page: &[u8], refused: u64) {
-    match tally(table, page) {
+    match tally(Mode(MENDING), table, page) {
         Tallied::Counted(counts) => {
             let mut out = [0u8; 256];
             match last_line(counts, refused, &mut out) {

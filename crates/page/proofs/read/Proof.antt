@@ -1,5 +1,5 @@
--- `page::read` says what the call read is to say and leaves what it is to leave: a refusal of the checks of the
--- table, the place and the page, and the buffer as it was; or else what is said and left in the row of the place.
+-- `page::read` says what the call read is to say and leaves what it is to leave: a refusal of the checks of the mode,
+-- the table, the place and the page, and the buffer as it was; or else what is said and left in the row of the place.
 use Prim.Native.Nat.{ℕ}
 use mathlib.Core.List.{List}
 use lib.IntN.{ℤ}
@@ -12,8 +12,7 @@ use Rattle.places.proofs.Opening.{look-found, look-in-page}
 use Rattle.rules.proofs.Pages.{look-place}
 use Rattle.rules.specs.Judging.{judge, judgeAt, shown}
 use Rattle.rules.specs.Reading as rules
-use Rattle.rules.specs.Reading.{readRest, pointAt}
-use Rattle.rules.specs.Taking.{lookChecks}
+use Rattle.rules.specs.Reading.{lookChecks, readRest, pointAt}
 use Rattle.tables.specs.Table.{rowOf, rowFor}
 use Rattle.page.proofs.read.Statement.{statement}
 use Rattle.page.proofs.read.Tie as tie
@@ -23,16 +22,16 @@ row-at-requires c κs =
     let a = c .before .before .before .before .before .before .args in
     let t = a .table .now in
     let pg = a .page .now in
-    let found = look-found t pg (a .place) (c .before .before .before .survey-look .ensures) (c .before .places .given .1) in
-    number-in found (look-place t pg (a .place) (found .passes))
+    let found = look-found (a .mode .0) t pg (a .place) (c .before .before .before .survey-look .ensures) (c .before .places .given .1) in
+    number-in found (look-place (a .mode .0) t pg (a .place) (found .passes))
 
 read-at-requires : tie.Need-read-at-requires
 read-at-requires c κs =
     let a = c .before .before .before .before .before .before .before .before .args in
     let t = a .table .now in
     let pg = a .page .now in
-    let found = look-found t pg (a .place) (c .before .before .before .before .before .survey-look .ensures) (c .before .before .before .places .given .1) in
-    (row-surveyed found (look-place t pg (a .place) (found .passes)) (c .before .row-at .ensures), look-in-page t pg (a .place) found)
+    let found = look-found (a .mode .0) t pg (a .place) (c .before .before .before .before .before .survey-look .ensures) (c .before .before .before .places .given .1) in
+    (row-surveyed found (look-place (a .mode .0) t pg (a .place) (found .passes)) (c .before .row-at .ensures), look-in-page (a .mode .0) t pg (a .place) found)
 
 returns : tie.Need-returns
 returns c =
@@ -41,11 +40,11 @@ returns c =
     let pg = a .page .now in
     let p = a .place in
     let held = a .out .now in
-    let found = look-found t pg p (c .before .before .before .before .before .before .before .survey-look .ensures) (c .before .before .before .before .before .places .given .1) in
-    let placed = look-place t pg p (found .passes) in
+    let found = look-found (a .mode .0) t pg p (c .before .before .before .before .before .before .before .survey-look .ensures) (c .before .before .before .before .before .places .given .1) in
+    let placed = look-place (a .mode .0) t pg p (found .passes) in
     let rest : ℕ → List ℕ → List Check = λ r row. readRest row r pg p (length held) in
-    let tells : ℕ → List ℕ → List ℕ = λ r row. rules.told (judge row (cellAt pg p)) in
-    let shows : ℕ → List ℕ → List ℤ = λ r row. shown row (judge row (cellAt pg p)) in
+    let tells : ℕ → List ℕ → List ℕ = λ r row. rules.told (judge (a .mode .0) row (cellAt pg p)) in
+    let shows : ℕ → List ℕ → List ℤ = λ r row. shown row (judge (a .mode .0) row (cellAt pg p)) in
     let lent = c .before .before .before .row-at .ensures in
     let did = c .before .read-at .ensures in
     (place-says found placed lent rest tells (did .0), place-leaves found placed lent rest shows held (did .1))
@@ -59,7 +58,7 @@ returns-2 c =
     let says = c .before .before .before .survey-look .ensures in
     let told = c .before .refusal .given .1 in
     let rest = readRest (rowFor t p) (rowOf t p) pg p (length (a .out .now)) in
-    (survey-says (lookChecks t pg p) t p says told rest (rules.told (judgeAt t pg p)), survey-leaves (lookChecks t pg p) t p says told rest (pointAt t pg p) (a .out .now))
+    (survey-says (lookChecks (a .mode .0) t pg p) t p says told rest (rules.told (judgeAt (a .mode .0) t pg p)), survey-leaves (lookChecks (a .mode .0) t pg p) t p says told rest (pointAt (a .mode .0) t pg p) (a .out .now))
 
 pub read-spec : {M : Type 1} → statement M
 read-spec =

@@ -12,6 +12,7 @@ use places::inner::showing::show;
 use rows::inner::row::length;
 use rows::inner::row::step;
 use rules::Judged;
+use rules::Mode;
 ghost use mathlib.Core.List.{[]};
 ghost use mathlib.Core.Path.{_≡_};
 ghost use Prim.Native.Nat.{_≤_, _<_};
@@ -43,12 +44,13 @@ fn answer(judged: Judged) -> Answer
         } => Answer::Mended { distance },
         Judged::Missing => Answer::Missing,
         Judged::Contested => Answer::Contested,
-        Judged::Unreadable { reason } => Answer::Unreadable(reason),
+        Judged::Unreadable(reason) => Answer::Unreadable(reason),
     }
 }
 
 // What read does at a place of this row, which has this number: the checks 4 and 12, and the work.
 pub fn read_at(
+    mode: Mode,
     row: &[u8],
     number: usize,
     page: &[u8],
@@ -59,16 +61,16 @@ pub fn read_at(
     requires { ⌜ IsRow (now row) × InPage (now page) places place ⌝ }
     ensures says { λ r. ⌜ readMeaning r
         ≡ firstOf (readRest (now (row .entry)) number (now (page .entry)) place (listed.length (now (out .entry))))
-        (told (judge (now (row .entry)) (cellAt (now (page .entry)) place))) ⌝ }
+        (told (judge (mode .0) (now (row .entry)) (cellAt (now (page .entry)) place))) ⌝ }
     ensures leaves { λ r. ⌜ now (out .exit)
         ≡ leaves (readRest (now (row .entry)) number (now (page .entry)) place (listed.length (now (out .entry))))
-        (shown (now (row .entry)) (judge (now (row .entry)) (cellAt (now (page .entry)) place)))
+        (shown (now (row .entry)) (judge (mode .0) (now (row .entry)) (cellAt (now (page .entry)) place)))
         (now (out .entry)) ⌝ }
 {
     if out.len() != length(row).0 {
         return Reading::Refused(Refusal::BufferLength);
     }
-    match look(row, number, page, places, place) {
+    match look(mode, row, number, page, places, place) {
         Looked::Bad => Reading::Refused(Refusal::BadCell),
         Looked::At(seen) => {
             show(row, seen, out);
@@ -115,12 +117,13 @@ fn valued(judged: Judged, v: f32) -> Value
         } => Value::Mended { value: v, distance },
         Judged::Missing => Value::Missing,
         Judged::Contested => Value::Contested,
-        Judged::Unreadable { reason } => Value::Unreadable(reason),
+        Judged::Unreadable(reason) => Value::Unreadable(reason),
     }
 }
 
 // What coefficient does at a place of this row, which has this number: the checks 13 and 12, and the work.
 pub fn coefficient_at(
+    mode: Mode,
     row: &[u8],
     number: usize,
     page: &[u8],
@@ -131,15 +134,15 @@ pub fn coefficient_at(
     requires { ⌜ IsRow (now row) × InPage (now page) places place ⌝ }
     ensures says { λ r. ⌜ coefficientMeaning r
         ≡ firstOf (coefficientRest (now (row .entry)) number (now (page .entry)) place coordinate)
-        (told (judge (now (row .entry)) (cellAt (now (page .entry)) place))) ⌝ }
+        (told (judge (mode .0) (now (row .entry)) (cellAt (now (page .entry)) place))) ⌝ }
     ensures carries { λ r. ⌜ coefficientValues r
         ≡ leaves (coefficientRest (now (row .entry)) number (now (page .entry)) place coordinate)
-        (carriedBy (now (row .entry)) (judge (now (row .entry)) (cellAt (now (page .entry)) place)) coordinate) [] ⌝ }
+        (carriedBy (now (row .entry)) (judge (mode .0) (now (row .entry)) (cellAt (now (page .entry)) place)) coordinate) [] ⌝ }
 {
     if length(row).0 <= coordinate {
         return Valued::Refused(Refusal::NoSuchCoordinate);
     }
-    match look(row, number, page, places, place) {
+    match look(mode, row, number, page, places, place) {
         Looked::Bad => Valued::Refused(Refusal::BadCell),
         Looked::At(seen) => {
             let judged = seen.judged;

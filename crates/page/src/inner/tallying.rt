@@ -8,6 +8,7 @@ use places::inner::looking::Looked;
 use places::inner::looking::look;
 use places::inner::showing::answer_number;
 use rows::inner::row::row_at;
+use rules::Mode;
 ghost use mathlib.Core.List.{_∷_};
 ghost use mathlib.Core.Path.{_≡_};
 ghost use Rattle.answers.specs.Checks.{firstOf};
@@ -18,9 +19,10 @@ ghost use Rattle.page.specs.Meanings.{tallyMeaning};
 
 // What tally does with a table and a page that passed, from the row of place 0 on: check 12 at every place, and the
 // counts on the way.
-pub fn tally_page(table: &[u8], places: usize, row: usize, page: &[u8]) -> Tallied
+pub fn tally_page(mode: Mode, table: &[u8], places: usize, row: usize, page: &[u8]) -> Tallied
     requires { ⌜ Ready (now table) (now page) places × (row ≡ rowOf (now table) 0) ⌝ }
-    ensures { λ r. ⌜ tallyMeaning r ≡ firstOf (tallyRest (now (table .entry)) (now (page .entry))) (0 ∷ tallyOf (now (table .entry)) (now (page .entry))) ⌝ }
+    ensures { λ r. ⌜ tallyMeaning r
+        ≡ firstOf (tallyRest (now (table .entry)) (now (page .entry))) (0 ∷ tallyOf (mode .0) (now (table .entry)) (now (page .entry))) ⌝ }
 {
     let mut counts = [0usize; 5];
     let mut walk = walk_from(table, row, 0);
@@ -28,7 +30,7 @@ pub fn tally_page(table: &[u8], places: usize, row: usize, page: &[u8]) -> Talli
     while place < places {
         walk = walked(table, walk, place);
         let number = walk.row;
-        match look(row_at(table, number), number, page, places, place) {
+        match look(mode, row_at(table, number), number, page, places, place) {
             Looked::Bad => return Tallied::Refused(Refusal::BadCellAt { place }),
             Looked::At(seen) => {
                 let judged = seen.judged;

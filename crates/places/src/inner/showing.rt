@@ -6,6 +6,7 @@ use numbering::inner::Found;
 use numbering::inner::of_radius;
 use numbering::inner::write_point;
 use rules::Judged;
+use rules::Reason;
 ghost use mathlib.Core.Path.{_≡_};
 ghost use Prim.Native.Nat.{_<_};
 ghost use lib.IntN.{pos};
@@ -13,7 +14,7 @@ ghost use lib.ListN as listed;
 ghost use lib.ListN.{replicate};
 ghost use Rattle.cells.specs.Seen.{Handed};
 ghost use Rattle.numbering.specs.Numbered.{FoundIn};
-ghost use Rattle.rules.specs.Judging.{answerNumber, reasonOrDistance, shown, pointNamed, NamesPoint, Shows};
+ghost use Rattle.rules.specs.Judging.{answerNumber, reasonNumber, reasonOrDistance, shown, pointNamed, NamesPoint, Shows};
 ghost use Rattle.tables.specs.Row.{lengthOf, IsRow};
 
 // The point of an index in a row, by where it stands.
@@ -60,7 +61,7 @@ pub fn show(row: &[u8], seen: Seen, out: &mut [i32])
         } => write_sought(row, radius, index, out),
         Judged::Missing => clear(out),
         Judged::Contested => clear(out),
-        Judged::Unreadable { reason: _ } => clear(out),
+        Judged::Unreadable(_) => clear(out),
     }
 }
 
@@ -80,7 +81,19 @@ pub fn answer_number(judged: Judged) -> usize
         } => 1,
         Judged::Missing => 2,
         Judged::Contested => 3,
-        Judged::Unreadable { reason: _ } => 4,
+        Judged::Unreadable(_) => 4,
+    }
+}
+
+// The number of a reason.
+fn reason_number(reason: Reason) -> u64
+    ensures { λ n. ⌜ n ≡ reasonNumber reason ⌝ }
+{
+    match reason {
+        Reason::NoSuchRadius => 10,
+        Reason::TooWide => 14,
+        Reason::PastEnd { distance: _ } => 6,
+        Reason::EmptyShape => 15,
     }
 }
 
@@ -100,6 +113,6 @@ pub fn reason_or_distance(judged: Judged) -> u64
         } => distance,
         Judged::Missing => 0,
         Judged::Contested => 0,
-        Judged::Unreadable { reason } => reason as u64,
+        Judged::Unreadable(reason) => reason_number(reason),
     }
 }

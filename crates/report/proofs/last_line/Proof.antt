@@ -1,7 +1,7 @@
 -- `report::last_line` writes the last line, if there is room for a line.
 use borrow.Author.Needs.{needs}
 use Rattle.page.specs.Meanings.{countsMeaning}
-use Rattle.report.specs.Listing.{lastLine}
+use Rattle.reporting.specs.Listing.{lastLine}
 use Rattle.report.proofs.LinesSays.{line-4, line-written}
 use Rattle.report.proofs.last_line.Statement.{statement}
 use Rattle.report.proofs.last_line.Tie as tie

@@ -1,5 +1,5 @@
 -- `report::lines` says what the call lines is to say and leaves what it is to leave: a refusal of the checks of the
--- table, the place and the page, and the buffer as it was; or else what is said and left behind them.
+-- mode, the table, the place and the page, and the buffer as it was; or else what is said and left behind them.
 use mathlib.Core.Path.{_∙_}
 use native.Mathlib.Omega.{arith}
 use borrow.Author.Needs.{needs}
@@ -7,15 +7,15 @@ use lib.ListN.{length}
 use Rattle.answers.proofs.InOrder.{passed-says, passed-leaves}
 use Rattle.pairing.proofs.Surveys.{survey-says, survey-leaves}
 use Rattle.places.proofs.Opening.{look-found}
-use Rattle.rules.specs.Taking.{lookChecks}
-use Rattle.report.specs.Calls.{startingWith, linesRest, linesText, linesAnswer}
+use Rattle.rules.specs.Reading.{lookChecks}
+use Rattle.reporting.specs.Calls.{startingWith, linesRest, linesText, linesAnswer}
 use Rattle.report.proofs.lines.Statement.{statement}
 use Rattle.report.proofs.lines.Tie as tie
 
 lines-from-requires : tie.Need-lines-from-requires
 lines-from-requires c κs =
     let a = c .before .before .before .before .before .before .before .before .args in
-    let found = look-found (a .table .now) (a .page .now) (a .from) (c .before .before .before .before .survey-look .ensures) (c .before .before .places .given .1) in
+    let found = look-found (a .mode .0) (a .table .now) (a .page .now) (a .from) (c .before .before .before .before .survey-look .ensures) (c .before .before .places .given .1) in
     record { passes = found .passes; is-places = found .is-places; is-row = found .is-row }
 
 returns : tie.Need-returns
@@ -24,12 +24,12 @@ returns c =
     let t = a .table .now in
     let pg = a .page .now in
     let held = a .out .now in
-    let checks = lookChecks t pg (a .from) in
-    let passes = look-found t pg (a .from) (c .before .before .before .before .before .before .before .survey-look .ensures) (c .before .before .before .before .before .places .given .1) .passes in
+    let checks = lookChecks (a .mode .0) t pg (a .from) in
+    let passes = look-found (a .mode .0) t pg (a .from) (c .before .before .before .before .before .before .before .survey-look .ensures) (c .before .before .before .before .before .places .given .1) .passes in
     let rest = linesRest t pg (a .from) (length held) in
     let did = c .before .before .lines-from .ensures in (
-      did .0 ∙ passed-says checks rest (linesAnswer t pg (a .from) (length held)) passes,
-      did .1 .0 ∙ passed-leaves checks rest (startingWith (linesText t pg (a .from) (length held)) held) held passes,
+      did .0 ∙ passed-says checks rest (linesAnswer (a .mode .0) t pg (a .from) (length held)) passes,
+      did .1 .0 ∙ passed-leaves checks rest (startingWith (linesText (a .mode .0) t pg (a .from) (length held)) held) held passes,
       did .1 .1,
     )
 
@@ -39,12 +39,12 @@ returns-2 c =
     let t = a .table .now in
     let pg = a .page .now in
     let held = a .out .now in
-    let checks = lookChecks t pg (a .from) in
+    let checks = lookChecks (a .mode .0) t pg (a .from) in
     let says = c .before .before .before .survey-look .ensures in
     let told = c .before .refusal .given .1 in
     let rest = linesRest t pg (a .from) (length held) in (
-      survey-says checks t (a .from) says told rest (linesAnswer t pg (a .from) (length held)),
-      survey-leaves checks t (a .from) says told rest (startingWith (linesText t pg (a .from) (length held)) held) held,
+      survey-says checks t (a .from) says told rest (linesAnswer (a .mode .0) t pg (a .from) (length held)),
+      survey-leaves checks t (a .from) says told rest (startingWith (linesText (a .mode .0) t pg (a .from) (length held)) held) held,
       omega arith,
     )
 

@@ -1,7 +1,7 @@
 -- `report::refused_line` writes the line of a refusal, if there is room for a line.
 use borrow.Author.Needs.{needs}
 use Rattle.answers.specs.Refusals.{meaning, printed}
-use Rattle.text.specs.Text.{refusedText}
+use Rattle.wording.specs.Text.{refusedText}
 use Rattle.report.proofs.LinesSays.{line-4, line-written}
 use Rattle.report.proofs.refused_line.Statement.{statement}
 use Rattle.report.proofs.refused_line.Tie as tie

@@ -12,6 +12,7 @@ use places::inner::showing::reason_or_distance;
 use places::inner::showing::show;
 use rows::inner::row::length;
 use rows::inner::row::row_at;
+use rules::Mode;
 use text::inner::lines::write_place_line;
 ghost use mathlib.Core.Path.{_≡_};
 ghost use mathlib.Core.List.{[], _∷_};
@@ -25,8 +26,9 @@ ghost use Rattle.layout.specs.Bounds.{InPage};
 ghost use Rattle.rules.specs.Judging.{Shows};
 ghost use Rattle.rules.specs.Taking.{cellCheckAt};
 ghost use Rattle.tables.specs.Row.{lengthOf, IsRow};
-ghost use Rattle.report.specs.Listing.{lineOf, lineIn, linesFrom};
-ghost use Rattle.report.specs.Calls.{lineSpace, listedMeaning, sizeListed, startingWith, linesRest, linesText, linesAnswer};
+ghost use Rattle.reporting.specs.Listing.{lineOf, lineIn, linesFrom};
+ghost use Rattle.reporting.specs.Calls.{lineSpace, startingWith, linesRest, linesText, linesAnswer};
+ghost use Rattle.report.specs.Meanings.{listedMeaning, sizeListed};
 ghost use Rattle.report.specs.Bounds.{Spans, HasRoom, Listable};
 
 // Whether the cells of the places from `from`, which is in this row, to the one before `to` are good, or the refusal
@@ -81,8 +83,9 @@ fn write_seen(
     )
 }
 
-// The line of a place in this row; where it ends.
+// The line of a place in this row, in this mode; where it ends.
 fn write_line(
+    mode: Mode,
     row: &[u8],
     page: &[u8],
     places: usize,
@@ -91,16 +94,17 @@ fn write_line(
     out: &mut [u8],
 ) -> usize
     requires { ⌜ IsRow (now row) × InPage (now page) places place × (at + lineSpace ≤ listed.length (now out)) ⌝ }
-    ensures { λ r. ⌜ Wrote (now (out .entry)) at (lineIn (now (row .entry)) (now (page .entry)) place) lineSpace r (now (out .exit)) ⌝ }
+    ensures { λ r. ⌜ Wrote (now (out .entry)) at (lineIn (mode .0) (now (row .entry)) (now (page .entry)) place) lineSpace r (now (out .exit)) ⌝ }
 {
     let l = length(row).0;
-    let seen = judge_at(row, page, places, place);
+    let seen = judge_at(mode, row, page, places, place);
     let mut point = [0i32; 16];
     write_seen(row, place, seen, &mut point[..l], at, out)
 }
 
 // The lines of the places from `from`, which is in this row, to the one before `to`; where they end.
 fn write_lines(
+    mode: Mode,
     table: &[u8],
     row: usize,
     page: &[u8],
@@ -110,7 +114,7 @@ fn write_lines(
     out: &mut [u8],
 ) -> usize
     requires { ⌜ HasRoom (now table) row (now page) places from to (now out) ⌝ }
-    ensures { λ r. ⌜ Wrote (now (out .entry)) 0 (linesFrom (now (table .entry)) (now (page .entry)) from (to - from))
+    ensures { λ r. ⌜ Wrote (now (out .entry)) 0 (linesFrom (mode .0) (now (table .entry)) (now (page .entry)) from (to - from))
         (lineSpace * (to - from)) r (now (out .exit)) ⌝ }
 {
     let mut walk = walk_from(table, row, from);
@@ -118,7 +122,7 @@ fn write_lines(
     let mut place = from;
     while place < to {
         walk = walked(table, walk, place);
-        end = write_line(row_at(table, walk.row), page, places, place, end, out);
+        end = write_line(mode, row_at(table, walk.row), page, places, place, end, out);
         place += 1;
     }
     end
@@ -133,8 +137,9 @@ fn least(a: usize, b: usize) -> usize
     b
 }
 
-// What lines does with a table, a place and a page that passed: the checks 4 and 12, and the work.
+// What lines does with a mode, a table, a place and a page that passed: the checks 4 and 12, and the work.
 pub fn lines_from(
+    mode: Mode,
     table: &[u8],
     places: usize,
     row: usize,
@@ -142,13 +147,13 @@ pub fn lines_from(
     from: usize,
     out: &mut [u8],
 ) -> Listed
-    requires { ⌜ Listable (now table) (now page) from places row ⌝ }
+    requires { ⌜ Listable (mode .0) (now table) (now page) from places row ⌝ }
     ensures says { λ r. ⌜ listedMeaning r
         ≡ firstOf (linesRest (now (table .entry)) (now (page .entry)) from (listed.length (now (out .entry))))
-        (linesAnswer (now (table .entry)) (now (page .entry)) from (listed.length (now (out .entry)))) ⌝ }
+        (linesAnswer (mode .0) (now (table .entry)) (now (page .entry)) from (listed.length (now (out .entry)))) ⌝ }
     ensures leaves { λ r. ⌜ now (out .exit)
         ≡ leaves (linesRest (now (table .entry)) (now (page .entry)) from (listed.length (now (out .entry))))
-        (startingWith (linesText (now (table .entry)) (now (page .entry)) from (listed.length (now (out .entry)))) (now (out .entry)))
+        (startingWith (linesText (mode .0) (now (table .entry)) (now (page .entry)) from (listed.length (now (out .entry)))) (now (out .entry)))
         (now (out .entry)) ⌝ }
     ensures fits { λ r. ⌜ sizeListed r ≤ listed.length (now (out .exit)) ⌝ }
 {
@@ -159,7 +164,7 @@ pub fn lines_from(
     match check_cells(table, row, page, places, from, to) {
         Verdict::Passed => Listed::Written {
             to,
-            size: write_lines(table, row, page, places, from, to, out),
+            size: write_lines(mode, table, row, page, places, from, to, out),
         },
         Verdict::Refused(refusal) => Listed::Refused(refusal),
     }

@@ -6,8 +6,8 @@ ghost use Prim.Native.Nat.{_≤_};
 ghost use lib.ListN.{length};
 ghost use Rattle.answers.specs.Refusals.{meaning, printed};
 ghost use Rattle.buffers.specs.Written.{Wrote};
-ghost use Rattle.text.specs.Text.{refusedText};
-ghost use Rattle.report.specs.Calls.{lineSpace};
+ghost use Rattle.wording.specs.Text.{refusedText};
+ghost use Rattle.reporting.specs.Calls.{lineSpace};
 
 // It starts the buffer; where it ends.
 pub fn write_refusal(refusal: Refusal, out: &mut [u8]) -> usize

@@ -4,7 +4,7 @@ ghost use Prim.Native.Nat.{_+_, _*_, _≤_};
 ghost use mathlib.Core.List.{_∷_, [], _++_, map};
 ghost use lib.ListN.{length};
 ghost use Rattle.buffers.specs.Written.{Wrote};
-ghost use Rattle.text.specs.Text.{ascii, decimal, integer, spaced, word};
+ghost use Rattle.wording.specs.Text.{ascii, decimal, integer, spaced, word};
 
 // One byte.
 pub fn write_byte(byte: u8, at: usize, out: &mut [u8]) -> usize

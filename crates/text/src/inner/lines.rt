@@ -10,7 +10,7 @@ ghost use Prim.Native.Nat.{_+_, _≤_};
 ghost use mathlib.Core.List.{map};
 ghost use lib.ListN.{length};
 ghost use Rattle.buffers.specs.Written.{Wrote};
-ghost use Rattle.text.specs.Text.{decimal, line, placeText, lastText, refusedText};
+ghost use Rattle.wording.specs.Text.{decimal, line, placeText, lastText, refusedText};
 
 // The line of a place: its number, the number of its answer, a third number that is the reason or the distance, and at
 // most 16 coordinates.

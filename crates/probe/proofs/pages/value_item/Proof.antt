@@ -7,7 +7,7 @@ returns : tie.Need-returns
 returns c = rw (c .before .enum-told .given .1) (c .told .ensures)
 
 returns-2 : tie.Need-returns-2
-returns-2 c = rw (c .before .before .value .given .1) (c .mended .ensures)
+returns-2 c = rw (c .before .before .value .given .1) (c .distant .ensures)
 
 returns-3 : tie.Need-returns-3
 returns-3 c = rw (c .before .enum-told2 .given .1) (c .told2 .ensures)
@@ -16,7 +16,7 @@ returns-4 : tie.Need-returns-4
 returns-4 c = rw (c .before .enum-told3 .given .1) (c .told3 .ensures)
 
 returns-5 : tie.Need-returns-5
-returns-5 c = rw (c .before .before .value2 .given .1) (c .told4 .ensures)
+returns-5 c = rw (c .before .before .value2 .given .1) (c .unreadable .ensures)
 
 pub value-item-spec : {M : Type 1} → statement M
 value-item-spec =

@@ -11,7 +11,7 @@ returns c =
     let a = c .before .before .before .before .args in
     let said =
     seen-as (a .row .now) (c .unseen .result) (c .unseen .ensures) tt
-    (judges-missing (a .row .now) (record { state = a .state; bytes = a .bytes .now }) (c .before .if1 .taken)) in
+    (judges-missing (a .mode .0) (a .row .now) (record { state = a .state; bytes = a .bytes .now }) (c .before .if1 .taken)) in
     record { is-judged = said .0; handed = said .1 }
 
 returns-2 : tie.Need-returns-2
@@ -19,7 +19,7 @@ returns-2 c =
     let a = c .before .before .before .before .before .args in
     let said =
     seen-as (a .row .now) (c .unseen2 .result) (c .unseen2 .ensures) tt
-    (judges-contested (a .row .now) (record { state = a .state; bytes = a .bytes .now }) (c .before .before .if1 .left) (c .before .if2 .taken)) in
+    (judges-contested (a .mode .0) (a .row .now) (record { state = a .state; bytes = a .bytes .now }) (c .before .before .if1 .left) (c .before .if2 .taken)) in
     record { is-judged = said .0; handed = said .1 }
 
 returns-3 : tie.Need-returns-3
@@ -27,7 +27,7 @@ returns-3 c =
     let a = c .before .before .before .before .before .args in
     let did = c .judge-record .ensures in
     record {
-      is-judged = did .0 ∙ judges-held (a .row .now) (record { state = a .state; bytes = a .bytes .now }) (c .before .if2 .left);
+      is-judged = did .0 ∙ judges-held (a .mode .0) (a .row .now) (record { state = a .state; bytes = a .bytes .now }) (c .before .if2 .left);
       handed = did .1;
     }
 

@@ -1,5 +1,5 @@
 -- `cells::inner::judging::judge_codeword` judges a codeword: one that names a point is sound; one whose shape is empty
--- is unreadable; one past the end is past the width, mended, or mended to an empty shape.
+-- is unreadable; one past the end is judged apart.
 use Prim.Native.Nat.{ℕ}
 use mathlib.Core.Bool.{Bool}
 use mathlib.Core.List.{List}
@@ -17,11 +17,11 @@ use Rattle.cells.proofs.inner.judging.judge_codeword.Statement.{stateme
 use Rattle.cells.proofs.inner.judging.judge_codeword.Tie as tie
 
 -- what is judged by the numbering of a row's shell is judged by the row
-by-row : {m : Numbering} {row : List ℕ} {k : ℕ} → IsOfRow m row k → (n : ℕ)
-    → judgeCodeword (namesIn m) (totalIn m) (m .radius .0) n ≡ judgeIn row k n
-by-row {m} {row} {k} of-row n =
-    ap (λ (names : ℕ → Bool). judgeCodeword names (totalIn m) (m .radius .0) n) (names-of of-row)
-    ∙ ap₂ (λ (total r : ℕ). judgeCodeword (indexNames row k) total r n) (total-of of-row) (of-row .is-radius)
+by-row : {m : Numbering} {row : List ℕ} {k : ℕ} → IsOfRow m row k → (mode n : ℕ)
+    → judgeCodeword mode (namesIn m) (totalIn m) (m .radius .0) n ≡ judgeIn mode row k n
+by-row {m} {row} {k} of-row mode n =
+    ap (λ (names : ℕ → Bool). judgeCodeword mode names (totalIn m) (m .radius .0) n) (names-of of-row)
+    ∙ ap₂ (λ (total r : ℕ). judgeCodeword mode (indexNames row k) total r n) (total-of of-row) (of-row .is-radius)
 
 seek-requires : tie.Need-seek-requires
 seek-requires c κs = let a = c .before .before .before in usable-of (c .before .of-row .ensures) (a .pre .0 .row-good .radius-usable (a .args .number) (a .pre .1))
@@ -47,7 +47,7 @@ returns c =
     let m = c .before .before .before .before .before .of-row .result in
     let sought = rw (c .before .found .given .1) at (c .before .before .before .seek .ensures) in
     let k = of-row .is-radius in
-    (codeword-sound (namesIn m) (totalIn m) (m .radius .0) (a .args .n) (sought .0) (sought .1) ∙ by-row of-row (a .args .n), rw k (found-of of-row (sought .2)))
+    (codeword-sound (a .args .mode .0) (namesIn m) (totalIn m) (m .radius .0) (a .args .n) (sought .0) (sought .1) ∙ by-row of-row (a .args .mode .0) (a .args .n), rw k (found-of of-row (sought .2)))
 
 returns-2 : tie.Need-returns-2
 returns-2 c =
@@ -57,7 +57,7 @@ returns-2 c =
     let m = c .before .before .before .before .before .of-row .result in
     let sought = rw (c .before .enum-told .given .1) at (c .before .before .before .seek .ensures) in
     seen-as row (c .unseen .result) (c .unseen .ensures) tt
-    (codeword-empty (namesIn m) (totalIn m) (m .radius .0) (a .args .n) (sought .0) (sought .1) ∙ by-row of-row (a .args .n))
+    (codeword-empty (a .args .mode .0) (namesIn m) (totalIn m) (m .radius .0) (a .args .n) (sought .0) (sought .1) ∙ by-row of-row (a .args .mode .0) (a .args .n))
 
 returns-3 : tie.Need-returns-3
 returns-3 c =
@@ -68,7 +68,7 @@ returns-3 c =
     let sought = rw (c .before .before .before .total .given .1) at (c .before .before .before .before .before .seek .ensures) in
     let past = c .before .judge-past .ensures in
     seen-as row (c .unseen2 .result) (c .unseen2 .ensures) (past .1)
-    (past .0 ∙ ap (λ (total : ℕ). judgeCodeword (namesIn m) total (m .radius .0) (a .args .n)) (sought .1) ∙ by-row of-row (a .args .n))
+    (past .0 ∙ ap (λ (total : ℕ). judgeCodeword (a .args .mode .0) (namesIn m) total (m .radius .0) (a .args .n)) (sought .1) ∙ by-row of-row (a .args .mode .0) (a .args .n))
 
 pub judge-codeword-spec : {M : Type 1} → statement M
 judge-codeword-spec =

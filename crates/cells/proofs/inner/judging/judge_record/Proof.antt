@@ -15,7 +15,7 @@ returns c =
     let row = a .row .now in
     let y = a .bytes .now in
     seen-as row (c .unseen .result) (c .unseen .ensures) tt
-    (record-10 row y (omega (arith, c .before .before .before .radius-number-in .ensures .0, c .before .before .radii .ensures)))
+    (record-10 (a .mode .0) row y (omega (arith, c .before .before .before .radius-number-in .ensures .0, c .before .before .radii .ensures)))
 
 returns-2 : tie.Need-returns-2
 returns-2 c =
@@ -24,8 +24,8 @@ returns-2 c =
     let y = a .bytes .now in
     let chosen = c .before .before .before .before .radius-number-in .ensures .0 in
     let did = c .judge-codeword .ensures in
-    let codeword = ap₂ (λ (number n : ℕ). judgeIn row (radiusAt row number) n) chosen (c .before .codeword-in .ensures .0) in
-    (did .0 ∙ codeword ∙ record-judged row y (omega (arith, chosen, c .before .before .before .radii .ensures)), did .1)
+    let codeword = ap₂ (λ (number n : ℕ). judgeIn (a .mode .0) row (radiusAt row number) n) chosen (c .before .codeword-in .ensures .0) in
+    (did .0 ∙ codeword ∙ record-judged (a .mode .0) row y (omega (arith, chosen, c .before .before .before .radii .ensures)), did .1)
 
 pub judge-record-spec : {M : Type 1} → statement M
 judge-record-spec =

@@ -1,6 +1,6 @@
 -- `files::inner::printing::print_refused` prints what the call refused_line has written.
 use borrow.Author.Needs.{needs}
-use Rattle.report.specs.Calls.{sizeLined}
+use Rattle.report.specs.Meanings.{sizeLined}
 use Rattle.files.proofs.Parts.{part-fits, part-size}
 use Rattle.files.proofs.inner.printing.print_refused.Statement.{statement}
 use Rattle.files.proofs.inner.printing.print_refused.Tie as tie

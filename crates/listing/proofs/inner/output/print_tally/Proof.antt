@@ -1,6 +1,6 @@
 -- `listing::inner::output::print_tally` prints what the call last_line has written.
 use borrow.Author.Needs.{needs}
-use Rattle.report.specs.Calls.{sizeLined}
+use Rattle.report.specs.Meanings.{sizeLined}
 use Rattle.files.proofs.Parts.{part-fits, part-size}
 use Rattle.listing.proofs.inner.output.print_tally.Statement.{statement}
 use Rattle.listing.proofs.inner.output.print_tally.Tie as tie

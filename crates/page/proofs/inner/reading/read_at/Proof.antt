@@ -23,7 +23,7 @@ show-requires c κs =
     let row = a .args .row .now in
     let sees = (rw (c .before .before .seen .given .1) at (c .before .before .before .before .look .ensures)) .1 in
     let cell = cellAt (a .args .page .now) (a .args .place) in
-    (a .pre .0, seen-shows row cell (a .pre .0) sees, sees .handed, c .before .before .before .before .before .if1 .left ∙ c .before .before .before .before .before .before .before .length .ensures)
+    (a .pre .0, seen-shows (a .args .mode .0) row cell (a .pre .0) sees, sees .handed, c .before .before .before .before .before .if1 .left ∙ c .before .before .before .before .before .before .before .length .ensures)
 
 returns-2 : tie.Need-returns-2
 returns-2 c =

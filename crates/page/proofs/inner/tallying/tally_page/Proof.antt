@@ -13,10 +13,10 @@ use Rattle.page.proofs.inner.tallying.tally_page.Statement.{statement}
 use Rattle.page.proofs.inner.tallying.tally_page.Tie as tie
 
 abbrev Inv-loop : tie.InvT-loop
-Inv-loop table places row page counts₀ walk₀ place₀ counts walk place = Tallying table page (walk .row) (walk .end) place counts
+Inv-loop mode table places row page counts₀ walk₀ place₀ counts walk place = Tallying (mode .0) table page (walk .row) (walk .end) place counts
 
 abbrev μ-loop : tie.MeasureT-loop
-μ-loop table places row page counts₀ walk₀ place₀ counts walk place = places - place
+μ-loop mode table places row page counts₀ walk₀ place₀ counts walk place = places - place
 
 walk-from-requires : tie.Need-walk-from-requires Inv-loop μ-loop
 walk-from-requires c κs = let p = c .before .before .pre in place-0 (p .0) (p .1)
@@ -47,7 +47,7 @@ loop-again c =
     let a = c .before .before .before .before .before .before .before .before .before .before .before .before in
     let i = c .before .before .before .before .before .before .before .before .loop in
     let seen = rw (c .before .before .seen .given .1) at (c .before .before .before .before .look .ensures) in
-    let judged = seen .1 .is-judged ∙ ap (λ (row : List _). judge row (cellAt (a .args .page .now) (i .place))) (c .before .before .before .before .before .row-at .ensures .0) in
+    let judged = seen .1 .is-judged ∙ ap (λ (row : List _). judge (a .args .mode .0) row (cellAt (a .args .page .now) (i .place))) (c .before .before .before .before .before .row-at .ensures .0) in
     counts-on (a .pre .0) (i .inv) (search needs) (c .before .before .before .before .before .before .walked .ensures) (seen .0) judged (c .answer-number .ensures .0)
 
 returns-2 : tie.Need-returns-2 Inv-loop μ-loop

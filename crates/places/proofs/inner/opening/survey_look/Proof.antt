@@ -1,22 +1,34 @@
--- `places::inner::opening::survey_look` surveys the table and the place, and then looks at the length of the page.
+-- `places::inner::opening::survey_look` asks for the mode, surveys the table and the place, and then looks at the
+-- length of the page.
+use mathlib.Core.List.{[], _∷_, _++_}
+use mathlib.Core.Path.{sym, _∙_}
 use borrow.Author.Needs.{needs}
 use Rattle.tables.proofs.PlaceChecks.{place-numbered, place-passes}
 use Rattle.tables.specs.Table.{placeChecks}
-use Rattle.places.proofs.Opening.{page-behind, told-to}
+use Rattle.rules.specs.Taking.{pageCheck}
+use Rattle.places.proofs.Opening.{page-behind, no-mode, in-mode, told-to}
 use Rattle.places.proofs.inner.opening.survey_look.Statement.{statement}
 use Rattle.places.proofs.inner.opening.survey_look.Tie as tie
-
-with-page-requires : tie.Need-with-page-requires
-with-page-requires c κs =
-    let a = c .before .before .before .args in
-    let t = a .table .now in
-    told-to (placeChecks t (a .place)) t (a .place) (c .survey-place .result) (place-numbered t (a .place)) (λ h. place-passes t (a .place) h .0) (c .survey-place .ensures)
 
 returns : tie.Need-returns
 returns c =
     let a = c .before .before .before .before .args in
     let t = a .table .now in
-    page-behind (placeChecks t (a .place)) t (a .place) (a .page .now) (place-numbered t (a .place)) (c .before .survey-place .ensures) (c .with-page .ensures)
+    no-mode (placeChecks t (a .place) ++ (pageCheck t (a .page .now) ∷ [])) t (a .place) (a .mode .0) (sym (c .before .no-such-mode .ensures) ∙ c .if1 .taken)
+
+with-page-requires : tie.Need-with-page-requires
+with-page-requires c κs =
+    let a = c .before .before .before .before .before .args in
+    let t = a .table .now in
+    told-to (placeChecks t (a .place)) t (a .place) (c .survey-place .result) (place-numbered t (a .place)) (λ h. place-passes t (a .place) h .0) (c .survey-place .ensures)
+
+returns-2 : tie.Need-returns-2
+returns-2 c =
+    let a = c .before .before .before .before .before .before .args in
+    let t = a .table .now in
+    let behind = page-behind (placeChecks t (a .place)) t (a .place) (a .page .now) (place-numbered t (a .place)) (c .before .survey-place .ensures) (c .with-page .ensures) in
+    in-mode (placeChecks t (a .place) ++ (pageCheck t (a .page .now) ∷ [])) t (a .place) (a .mode .0) (sym (c .before .before .before .no-such-mode .ensures) ∙ c .before .before .if1 .left) behind
 
 pub survey-look-spec : {M : Type 1} → statement M
-survey-look-spec = tie.close (tie.spec (λ c κs. search needs) with-page-requires returns)
+survey-look-spec =
+    tie.close (tie.spec (λ c κs. search needs) returns (λ c κs. search needs) with-page-requires returns-2)

@@ -1,5 +1,5 @@
--- `report::inner::block::lines_from` gives what the call lines is to say and leave behind the checks of the table,
--- the place and the page.
+-- `report::inner::block::lines_from` gives what the call lines is to say and leave behind the checks of the mode,
+-- the table, the place and the page.
 use mathlib.Core.Path.{sym, ap, _∙_}
 use borrow.Author.Needs.{needs}
 use Rattle.answers.specs.Refusals.{verdictMeaning}
@@ -8,7 +8,7 @@ use Rattle.report.proofs.inner.block.lines_from.Statement.{statement}
 use Rattle.report.proofs.inner.block.lines_from.Tie as tie
 
 returns : tie.Need-returns
-returns c = let a = c .before .before .before .before .args in lines-4 (a .table .now) (a .page .now) (a .from) (a .out .now) (c .if1 .taken)
+returns c = let a = c .before .before .before .before .args in lines-4 (a .mode .0) (a .table .now) (a .page .now) (a .from) (a .out .now) (c .if1 .taken)
 
 sub-least : tie.Need-sub-least
 sub-least c = from-places (c .before .before .before .before .pre)

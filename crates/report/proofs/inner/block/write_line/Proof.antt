@@ -23,7 +23,7 @@ write-seen-requires c κs =
     let length = c .before .before .before .length in
     let seen = c .before .before .judge-at .ensures in (
       is-row,
-      seen-shows row (cellAt (a .args .page .now) (a .args .place)) is-row seen,
+      seen-shows (a .args .mode .0) row (cellAt (a .args .page .now) (a .args .place)) is-row seen,
       seen .handed,
       length-take-le (length .result .0) (replicate 16 (pos 0)) (omega (arith, length .ensures, is-row .row-good .length-to)) ∙ length .ensures,
       a .pre .2,

@@ -11,16 +11,16 @@ use Rattle.report.proofs.inner.block.write_lines.Statement.{statement}
 use Rattle.report.proofs.inner.block.write_lines.Tie as tie
 
 abbrev Inv-loop : tie.InvT-loop
-Inv-loop table row page places from to out₀ walk₀ end₀ place₀ out walk end place =
-    (from ≤ place) × (place ≤ to) × Walked table (walk .row) (walk .end) place × LinesTo table page from place out₀ end out
+Inv-loop mode table row page places from to out₀ walk₀ end₀ place₀ out walk end place =
+    (from ≤ place) × (place ≤ to) × Walked table (walk .row) (walk .end) place × LinesTo (mode .0) table page from place out₀ end out
 
 abbrev μ-loop : tie.MeasureT-loop
-μ-loop table row page places from to out₀ walk₀ end₀ place₀ out walk end place = to - place
+μ-loop mode table row page places from to out₀ walk₀ end₀ place₀ out walk end place = to - place
 
 loop-holds : tie.Need-loop-holds Inv-loop μ-loop
 loop-holds c =
     let a = c .before .before .before .before in
-    (omega arith, a .pre .spans .from-to, walks-here (c .walk-from .ensures), begins-lines (a .args .table .now) (a .args .page .now) (a .args .from) (a .args .out .now))
+    (omega arith, a .pre .spans .from-to, walks-here (c .walk-from .ensures), begins-lines (a .args .mode .0) (a .args .table .now) (a .args .page .now) (a .args .from) (a .args .out .now))
 
 walked-requires : tie.Need-walked-requires Inv-loop μ-loop
 walked-requires c κs = let a = c .before .before .before .before .before .before .pre in (c .before .loop .inv .2, omega (arith, a .spans .to-places, a .spans .is-places))
@@ -43,7 +43,7 @@ loop-again c =
       omega (arith, i .inv .0),
       omega arith,
       walks-on at-row,
-      line-more (a .args .table .now) (a .args .page .now) (i .inv .0) number (c .before .before .before .before .row-at .ensures .0) (i .inv .3) (c .before .before .write-line .ensures),
+      line-more (a .args .mode .0) (a .args .table .now) (a .args .page .now) (i .inv .0) number (c .before .before .before .before .row-at .ensures .0) (i .inv .3) (c .before .before .write-line .ensures),
     )
 
 returns : tie.Need-returns Inv-loop μ-loop

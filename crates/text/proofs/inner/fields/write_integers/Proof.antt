@@ -9,7 +9,7 @@ use borrow.Author.Needs.{needs, sfits-of}
 use Rattle.coordinates.proofs.Coordinates.{kept}
 use Rattle.buffers.specs.Written.{Wrote}
 use Rattle.buffers.proofs.Writing.{wrote-none, wrote-length}
-use Rattle.text.specs.Text.{integer, spaced}
+use Rattle.wording.specs.Text.{integer, spaced}
 use Rattle.text.proofs.Writing.{fields-next, all-fields}
 use Rattle.text.proofs.inner.fields.write_integers.Statement.{statement}
 use Rattle.text.proofs.inner.fields.write_integers.Tie as tie

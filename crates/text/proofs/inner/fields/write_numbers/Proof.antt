@@ -7,7 +7,7 @@ use lib.ListN.{length, take}
 use borrow.Author.Needs.{needs}
 use Rattle.buffers.specs.Written.{Wrote}
 use Rattle.buffers.proofs.Writing.{wrote-none, wrote-length}
-use Rattle.text.specs.Text.{decimal, spaced}
+use Rattle.wording.specs.Text.{decimal, spaced}
 use Rattle.text.proofs.Writing.{fields-next, all-fields}
 use Rattle.text.proofs.inner.fields.write_numbers.Statement.{statement}
 use Rattle.text.proofs.inner.fields.write_numbers.Tie as tie

@@ -2,7 +2,7 @@
 use mathlib.Core.Path.{refl}
 use borrow.Author.Needs.{needs}
 use lib.Dec.{lit≤}
-use Rattle.text.specs.Text.{word}
+use Rattle.wording.specs.Text.{word}
 use Rattle.text.proofs.Writing.{word-rest, word-written}
 use Rattle.text.proofs.inner.fields.write_word.Statement.{statement}
 use Rattle.text.proofs.inner.fields.write_word.Tie as tie

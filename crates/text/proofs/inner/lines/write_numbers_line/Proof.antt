@@ -2,7 +2,7 @@
 use mathlib.Core.List.{[], map}
 use native.Mathlib.Omega.{arith}
 use borrow.Author.Needs.{needs}
-use Rattle.text.specs.Text.{decimal}
+use Rattle.wording.specs.Text.{decimal}
 use Rattle.text.proofs.Writing.{begun, more, ended}
 use Rattle.text.proofs.inner.lines.write_numbers_line.Statement.{statement}
 use Rattle.text.proofs.inner.lines.write_numbers_line.Tie as tie

@@ -2,7 +2,7 @@
 use mathlib.Core.List.{[], _∷_, map}
 use native.Mathlib.Omega.{arith}
 use borrow.Author.Needs.{needs}
-use Rattle.text.specs.Text.{decimal, integer, word}
+use Rattle.wording.specs.Text.{decimal, integer, word}
 use Rattle.text.proofs.Writing.{begun, more, one-more, ended}
 use Rattle.text.proofs.inner.lines.write_place_line.Statement.{statement}
 use Rattle.text.proofs.inner.lines.write_place_line.Tie as tie

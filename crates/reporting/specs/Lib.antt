@@ -1,0 +1,4 @@
+pub mod Listing
+pub mod Calls
+pub mod Steps
+pub mod Example
