@@ -55,11 +55,20 @@ struct figures {
 };
 #define UNCOUNTED (-1.0)
 
-/* A table, and how many places it has. */
+/* What the calls are measured with: a table, how many places it has, and how many books share it. */
 struct setting {
     const char *name;
     struct table table;
     uint64_t places;
+    uint64_t books;
+};
+
+/* What the calls that are compared are given of a table: its books, and one of them, which take and collect are not
+   asked for. Both may be any numbers. */
+struct sharing {
+    const struct table *table;
+    uint64_t books;
+    uint64_t book;
 };
 
 /* tracing.c: how many instructions a process takes, counted one by one; UNCOUNTED where that is not possible */
@@ -84,13 +93,14 @@ _Noreturn void fail(const char *what, const char *why);
 /* agreeing.c: one comparison each; their answer is returned. And how many there were. */
 uint64_t agree_on_index(struct shell shell, const int32_t *point, uint64_t point_length);
 uint64_t agree_on_point(struct shell shell, uint64_t index, uint64_t out_length);
-uint32_t agree_on_quantize(const struct table *table, const struct coefficients *in, uint64_t record_length);
-uint64_t agree_on_take(const struct table *table, uint8_t *page, uint8_t *page_of_plain, uint64_t size, const struct record *in);
-uint64_t agree_on_collect(const struct table *table, uint8_t *page, uint8_t *page_of_plain, uint64_t size, const uint8_t *run,
+uint32_t agree_on_quantize(struct sharing with, const struct coefficients *in, uint64_t record_length);
+uint64_t agree_on_take(struct sharing with, uint8_t *page, uint8_t *page_of_plain, uint64_t size,
+                       const struct record *in);
+uint64_t agree_on_collect(struct sharing with, uint8_t *page, uint8_t *page_of_plain, uint64_t size, const uint8_t *run,
                           uint64_t length);
-uint64_t agree_on_read(uint64_t mode, const struct table *table, const uint8_t *page, uint64_t size, uint64_t place,
+uint64_t agree_on_read(uint64_t mode, struct sharing with, const uint8_t *page, uint64_t size, uint64_t place,
                        uint64_t out_length);
-uint64_t agree_on_send(const struct table *table, const float *run, uint64_t run_length, uint64_t buffer_length);
+uint64_t agree_on_send(struct sharing with, const float *run, uint64_t run_length, uint64_t buffer_length);
 void print_compared(void);
 
 /* draws.c: calls with what the second program draws */
@@ -105,32 +115,39 @@ struct plain_pointing empty_point(uint64_t selector, uint64_t length, uint64_t r
                                   uint64_t out_length);
 uint64_t empty_point_item(uint64_t selector, uint64_t length, uint64_t radius, uint64_t index, int32_t *out, uint64_t out_length,
                           uint64_t which);
-uint32_t empty_quantize(const uint8_t *table, uint64_t table_length, uint64_t place, const float *coefficients,
-                        uint64_t coefficients_length, uint8_t *record, uint64_t record_length);
-uint32_t empty_take(const uint8_t *table, uint64_t table_length, uint8_t *page, uint64_t page_length, const uint8_t *record,
-                    uint64_t record_length);
-uint64_t empty_take_item(const uint8_t *table, uint64_t table_length, uint8_t *page, uint64_t page_length, const uint8_t *record,
-                         uint64_t record_length, uint64_t which);
-uint64_t empty_collect(const uint8_t *table, uint64_t table_length, uint8_t *page, uint64_t page_length, const uint8_t *bytes,
-                       uint64_t bytes_length);
-struct plain_reading empty_read(uint64_t mode, const uint8_t *table, uint64_t table_length, const uint8_t *page,
-                                uint64_t page_length, uint64_t place, int32_t *out, uint64_t out_length);
-uint64_t empty_read_item(uint64_t mode, const uint8_t *table, uint64_t table_length, const uint8_t *page, uint64_t page_length,
-                         uint64_t place, int32_t *out, uint64_t out_length, uint64_t which);
-struct plain_sending empty_send(const uint8_t *table, uint64_t table_length, const float *run, uint64_t run_length, uint8_t *buffer,
-                                uint64_t buffer_length);
-uint64_t empty_send_item(const uint8_t *table, uint64_t table_length, const float *run, uint64_t run_length, uint8_t *buffer,
-                         uint64_t buffer_length, uint64_t which);
+uint32_t empty_quantize(const uint8_t *table, uint64_t table_length, uint64_t books, uint64_t book, uint64_t place,
+                        const float *coefficients, uint64_t coefficients_length, uint8_t *record,
+                        uint64_t record_length);
+uint32_t empty_take(const uint8_t *table, uint64_t table_length, uint64_t books, uint8_t *page, uint64_t page_length,
+                    const uint8_t *record, uint64_t record_length);
+uint64_t empty_take_item(const uint8_t *table, uint64_t table_length, uint64_t books, uint8_t *page,
+                         uint64_t page_length, const uint8_t *record, uint64_t record_length, uint64_t which);
+uint64_t empty_collect(const uint8_t *table, uint64_t table_length, uint64_t books, uint8_t *page, uint64_t page_length,
+                       const uint8_t *bytes, uint64_t bytes_length);
+struct plain_reading empty_read(uint64_t mode, const uint8_t *table, uint64_t table_length, uint64_t books,
+                                uint64_t book, const uint8_t *page, uint64_t page_length, uint64_t place, int32_t *out,
+                                uint64_t out_length);
+uint64_t empty_read_item(uint64_t mode, const uint8_t *table, uint64_t table_length, uint64_t books, uint64_t book,
+                         const uint8_t *page, uint64_t page_length, uint64_t place, int32_t *out, uint64_t out_length,
+                         uint64_t which);
+struct plain_sending empty_send(const uint8_t *table, uint64_t table_length, uint64_t books, uint64_t book,
+                                const float *run, uint64_t run_length, uint8_t *buffer, uint64_t buffer_length);
+uint64_t empty_send_item(const uint8_t *table, uint64_t table_length, uint64_t books, uint64_t book, const float *run,
+                         uint64_t run_length, uint8_t *buffer, uint64_t buffer_length, uint64_t which);
 
 /* settings.c: the two tables, of one row and of 32; a table of one row for whole pages alone; those of a row with
-   another enumeration than the product enumeration; and a record of chance for a place, but not for one of the whole
-   pages */
-enum { SETTINGS = 2, OTHER_ROWS = 2 };
-extern struct setting settings[SETTINGS], long_page, other_rows[OTHER_ROWS];
+   another enumeration than the product enumeration; a table of one row that 16 books share, while the others have one
+   book; the bytes of a page; and of a cell of it, but not of one of the whole pages, the place field and a record of
+   chance */
+enum { SETTINGS = 2, OTHER_ROWS = 2, MOST_CELLS = MOST_PLACES /* of the page of a setting */ };
+extern struct setting settings[SETTINGS], long_page, other_rows[OTHER_ROWS], many_books;
 void begin_settings(void);
+uint64_t page_size(const struct setting *setting);
+struct sharing sharing_of(const struct setting *setting, uint64_t book);
 const uint8_t *row_for(const struct setting *setting, uint64_t place);
 uint64_t named_index(struct shell shell);
-void sound_record(const struct setting *setting, uint64_t place, uint8_t *record);
+uint64_t field_of(const struct setting *setting, uint64_t cell);
+void sound_record(const struct setting *setting, uint64_t cell, uint8_t *record);
 
 /* vectors.c: a vector for a place */
 struct coefficients vector_for(const struct setting *setting, uint64_t place);

@@ -28,6 +28,8 @@ int main(int words, char **arguments)
         bench_reads(&settings[i]);
     }
     bench_overflowing_reads(&settings[0]);
+    bench_takes(&many_books);
+    bench_reads(&many_books);
     for (int i = 0; i < SETTINGS; i++)
         bench_sends(&settings[i]);
     bench_sends(&long_page);

@@ -1,38 +1,42 @@
-/* Reading: places by chance. Of 16 places one is missing, one contested and one unreadable, two are mended where a
-   shell of the row has a codeword past the end, and the others are sound. The two are read in mending mode, and the
-   others in plain mode. Then the two alone, in plain mode. */
+/* Reading: places by chance, in any of the books. Of 16 places one is missing, one contested and one unreadable, two
+   are mended where a shell of the row has a codeword past the end, and the others are sound. The two are read in
+   mending mode, and the others in plain mode. Then the two alone, in plain mode. */
 
 #include "bench.h"
 
 #include <stdio.h>
 
-typedef struct plain_reading read_call(uint64_t mode, const uint8_t *table, uint64_t table_length, const uint8_t *page,
-                                       uint64_t page_length, uint64_t place, int32_t *out, uint64_t out_length);
-typedef uint64_t read_item_call(uint64_t mode, const uint8_t *table, uint64_t table_length, const uint8_t *page,
-                                uint64_t page_length, uint64_t place, int32_t *out, uint64_t out_length, uint64_t which);
+typedef struct plain_reading read_call(uint64_t mode, const uint8_t *table, uint64_t table_length, uint64_t books,
+                                       uint64_t book, const uint8_t *page, uint64_t page_length, uint64_t place,
+                                       int32_t *out, uint64_t out_length);
+typedef uint64_t read_item_call(uint64_t mode, const uint8_t *table, uint64_t table_length, uint64_t books,
+                                uint64_t book, const uint8_t *page, uint64_t page_length, uint64_t place, int32_t *out,
+                                uint64_t out_length, uint64_t which);
 
 enum { KINDS = 16, ITEM_ANSWER = 1 };
 
 static const struct setting *setting; /* the one that is measured */
-static uint64_t places[INPUTS], modes[INPUTS];
-static uint8_t page[MOST_PLACES * CELL_SIZE];
+static uint64_t books[INPUTS], places[INPUTS], modes[INPUTS];
+static uint8_t page[MOST_CELLS * CELL_SIZE];
 
 static void run_read(any_call *call, uint64_t inputs)
 {
     static int32_t out[MOST_LENGTH];
     read_call *const read_it = (read_call *)call;
+    const uint64_t size = page_size(setting);
     for (uint64_t i = 0; i < inputs; i++)
-        read_it(modes[i], setting->table.bytes, setting->table.size, page, setting->places * CELL_SIZE, places[i], out,
-                row_for(setting, places[i])[AT_LENGTH]);
+        read_it(modes[i], setting->table.bytes, setting->table.size, setting->books, books[i], page, size, places[i],
+                out, row_for(setting, places[i])[AT_LENGTH]);
 }
 
 static void run_read_item(any_call *call, uint64_t inputs)
 {
     static int32_t out[MOST_LENGTH];
     read_item_call *const read_it = (read_item_call *)call;
+    const uint64_t size = page_size(setting);
     for (uint64_t i = 0; i < inputs; i++)
-        read_it(modes[i], setting->table.bytes, setting->table.size, page, setting->places * CELL_SIZE, places[i], out,
-                row_for(setting, places[i])[AT_LENGTH], ITEM_ANSWER);
+        read_it(modes[i], setting->table.bytes, setting->table.size, setting->books, books[i], page, size, places[i],
+                out, row_for(setting, places[i])[AT_LENGTH], ITEM_ANSWER);
 }
 
 /* The last codeword that shows a point, which is past the end but for totals of a power of two. */
@@ -47,36 +51,51 @@ static void mend(const uint8_t *row, uint8_t *record)
     set_two_bytes(record + AT_CODEWORD + 2, last & 0xffff);
 }
 
-static int is_mended(uint64_t place)
+static int is_mended(uint64_t number)
 {
-    return place % KINDS == 3 || place % KINDS == 4;
+    return number % KINDS == 3 || number % KINDS == 4;
 }
 
-static void fill_cell(uint64_t place)
+static void fill_cell(uint64_t number)
 {
-    const uint64_t kind = place % KINDS;
-    uint8_t *cell = page + place * CELL_SIZE;
+    const uint64_t kind = number % KINDS;
+    uint8_t *cell = page + number * CELL_SIZE;
     __builtin_memset(cell, 0, CELL_SIZE);
     cell[AT_STATE] = kind == 0 ? STATE_EMPTY : kind == 1 ? STATE_CONTESTED : STATE_HELD;
     if (kind > 1)
-        sound_record(setting, place, cell + AT_RECORD);
+        sound_record(setting, number, cell + AT_RECORD);
     if (kind == 2)
         cell[AT_RECORD + AT_RADIUS_NUMBER] = MOST_RADII;
-    if (is_mended(place))
-        mend(row_for(setting, place), cell + AT_RECORD);
+    if (is_mended(number))
+        mend(row_for(setting, number % setting->places), cell + AT_RECORD);
 }
 
-/* The two modes of each place agree. */
+/* What is read of a cell agrees in both modes. */
+static void agree_on_cell(uint64_t number)
+{
+    const uint64_t field = field_of(setting, number), length = row_for(setting, place_in(field))[AT_LENGTH];
+    const struct sharing sharing = sharing_of(setting, book_in(field));
+    for (uint64_t mode = 0; mode < MODES; mode++)
+        if (agree_on_read(mode, sharing, page, page_size(setting), place_in(field), length) != 0)
+            fail("read", "refused");
+}
+
 static void fill_page_of(const struct setting *with)
 {
     setting = with;
-    for (uint64_t place = 0; place < setting->places; place++) {
-        const uint64_t length = row_for(setting, place)[AT_LENGTH];
-        fill_cell(place);
-        for (uint64_t mode = 0; mode < MODES; mode++)
-            if (agree_on_read(mode, &setting->table, page, setting->places * CELL_SIZE, place, length) != 0)
-                fail("read", "refused");
-    }
+    for (uint64_t number = 0; number < setting->places * setting->books; number++)
+        fill_cell(number);
+    for (uint64_t number = 0; number < setting->places * setting->books; number++)
+        agree_on_cell(number);
+}
+
+/* The input of that number: any cell; its number is returned. */
+static uint64_t draw_input(uint64_t input)
+{
+    const uint64_t number = chance_below(setting->places * setting->books), field = field_of(setting, number);
+    books[input] = book_in(field);
+    places[input] = place_in(field);
+    return number;
 }
 
 static void measure_reads(const char *what)
@@ -92,10 +111,8 @@ static void measure_reads(const char *what)
 void bench_reads(const struct setting *with)
 {
     fill_page_of(with);
-    for (uint64_t i = 0; i < INPUTS; i++) {
-        places[i] = chance_below(setting->places);
-        modes[i] = is_mended(places[i]) ? MENDING_MODE : PLAIN_MODE;
-    }
+    for (uint64_t i = 0; i < INPUTS; i++)
+        modes[i] = is_mended(draw_input(i)) ? MENDING_MODE : PLAIN_MODE;
     measure_reads("read");
 }
 
@@ -104,9 +121,10 @@ void bench_overflowing_reads(const struct setting *with)
 {
     fill_page_of(with);
     for (uint64_t i = 0; i < INPUTS; i++) {
+        uint64_t number;
         do
-            places[i] = chance_below(setting->places);
-        while (!is_overflowing(&setting->table, places[i], page + places[i] * CELL_SIZE));
+            number = draw_input(i);
+        while (!is_overflowing(&setting->table, field_of(setting, number), page + number * CELL_SIZE));
         modes[i] = PLAIN_MODE;
     }
     measure_reads("read past the end");

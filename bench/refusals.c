@@ -4,16 +4,18 @@
 
 enum { CALLS = 20000, MOST_RECORDS = 3 };
 
-/* A table and a place that a call is asked about. */
+/* A table, its books, and a place of one of them that a call is asked about. */
 struct asked {
     struct table table;
     uint64_t places; /* of a good table */
+    uint64_t books;
+    uint64_t book;
     uint64_t place;
     uint64_t row;    /* of the place, where there is one */
     uint64_t length; /* of that row */
 };
 
-static uint8_t pages[2][CELL_SIZE * (MOST_PLACES + 1)];
+static uint8_t pages[2][CELL_SIZE * (MOST_PLACES * (MOST_BOOKS + 1) + 1)];
 
 /* The right number, or one beside it. */
 static uint64_t beside(uint64_t right)
@@ -21,18 +23,19 @@ static uint64_t beside(uint64_t right)
     return chance_below(8) ? right : right - 1 + chance_below(3);
 }
 
-/* Mostly 0 to 2; else one beside these, or one of these only where a number is cut. */
-static uint64_t selector_by_chance(void)
+/* Mostly the right number; else one beside it, or one that is right only where a number is cut. */
+static uint64_t beside_or_cut(uint64_t right)
 {
-    const uint64_t selector = chance_below(SELECTORS), cut[] = {256, 65536, TWO_TO_32, TWO_TO_63};
-    return chance_below(8) ? beside(selector) : selector + cut[chance_below(ENTRIES(cut))];
+    const uint64_t cut[] = {256, 65536, TWO_TO_32, TWO_TO_63};
+    return chance_below(8) ? beside(right) : right + cut[chance_below(ENTRIES(cut))];
 }
 
 /* A shell, usable or not, a vector whose magnitudes often sum to its radius, and indices, one of them far past the
    end. */
 static void try_points(void)
 {
-    const struct shell shell = {chance_below(MOST_LENGTH + 2), chance_below(MOST_RADIUS + 2), selector_by_chance()};
+    const struct shell shell = {chance_below(MOST_LENGTH + 2), chance_below(MOST_RADIUS + 2),
+                                beside_or_cut(chance_below(SELECTORS))};
     const uint64_t total = shell.length <= MOST_LENGTH && shell.radius <= MOST_RADIUS ? total_of(shell) : 0;
     int32_t point[MOST_LENGTH + 2] = {0};
     for (uint64_t left = beside(shell.radius); left > 0 && left <= MOST_RADIUS; left--)
@@ -50,7 +53,10 @@ static struct asked asked_by_chance(void)
 {
     struct asked asked = {.table = chance_below(4) ? good_table_by_chance() : table_by_chance()};
     const struct table *table = &asked.table;
+    const uint64_t books = 1 + chance_below(MOST_BOOKS);
     asked.places = plain_survey(table->bytes, table->size, 0).places;
+    asked.books = beside_or_cut(books);
+    asked.book = beside_or_cut(chance_below(books));
     asked.place = beside(chance_below(asked.places + 1));
     if (asked.place < asked.places) {
         asked.row = plain_survey(table->bytes, table->size, asked.place).row;
@@ -69,12 +75,17 @@ static float coefficient_by_chance(void)
     return sign * (chance_below(64) ? (float)chance_below(4096) / 512 : edge);
 }
 
+static struct sharing sharing_asked(const struct asked *asked)
+{
+    return (struct sharing){&asked->table, asked->books, asked->book};
+}
+
 static void try_vector(const struct asked *asked)
 {
     struct coefficients in = {.place = asked->place, .length = beside(asked->length)};
     for (int i = 0; i < MOST_LENGTH; i++)
         in.values[i] = coefficient_by_chance();
-    agree_on_quantize(&asked->table, &in, beside(RECORD_SIZE));
+    agree_on_quantize(sharing_asked(asked), &in, beside(RECORD_SIZE));
 }
 
 /* The same record again and again, and at times a part of it at the end. */
@@ -83,28 +94,43 @@ static void try_run(const struct asked *asked, uint64_t size, const struct recor
     uint8_t run[MOST_RECORDS * RECORD_SIZE];
     for (uint64_t i = 0; i < sizeof run; i++)
         run[i] = in->bytes[i % RECORD_SIZE];
-    agree_on_collect(&asked->table, pages[0], pages[1], size, run, chance_below(sizeof run + 1));
+    agree_on_collect(sharing_asked(asked), pages[0], pages[1], size, run, chance_below(sizeof run + 1));
+}
+
+/* The right size, or one beside it: also for no book, and for one more than there may be. For more books than that the
+   page has one. */
+static uint64_t size_by_chance(const struct asked *asked)
+{
+    const uint64_t places = asked->places > 0 ? asked->places : 1;
+    const uint64_t books = asked->books <= MOST_BOOKS + 1 ? asked->books : 1;
+    return books > 0 ? beside(CELL_SIZE * places * books) : 0;
+}
+
+/* The cell that is asked for: any state, and a record that is the cell's own or one of a place, a book or a row beside
+   it. The same record arrives. */
+static void fill_cell(const struct asked *asked, struct record *in)
+{
+    uint8_t *cell = pages[0] + CELL_SIZE * (asked->book * asked->places + asked->place);
+    const uint64_t field = place_field(beside(asked->book), beside(asked->place)) & 0xffff;
+    cell[AT_STATE] = (uint8_t)chance_below(4);
+    write_record(cell + AT_RECORD, field, beside(asked->row) & 0xff, chance_below(4), chance_below(64));
+    __builtin_memcpy(in->bytes, cell + AT_RECORD, RECORD_SIZE);
+    __builtin_memcpy(pages[1] + (cell - pages[0]), cell, CELL_SIZE);
 }
 
 /* A cell of any state, a record for it that is the one that it holds or another, alone and in a run, and what is then
    read there. */
 static void try_cell(const struct asked *asked)
 {
-    const uint64_t size = beside(CELL_SIZE * (asked->places > 0 ? asked->places : 1));
-    const uint64_t mode = chance_below(8) ? chance_below(MODES) : no_mode_by_chance();
+    const uint64_t size = size_by_chance(asked), mode = chance_below(8) ? chance_below(MODES) : no_mode_by_chance();
     struct record in = {.length = beside(RECORD_SIZE)};
-    set_two_bytes(in.bytes + AT_PLACE, asked->place & 0xffff);
-    if (asked->place < asked->places) {
-        uint8_t *cell = pages[0] + asked->place * CELL_SIZE;
-        cell[AT_STATE] = (uint8_t)chance_below(4);
-        write_record(cell + AT_RECORD, beside(asked->place) & 0xffff, beside(asked->row) & 0xff, chance_below(4), chance_below(64));
-        __builtin_memcpy(in.bytes, cell + AT_RECORD, RECORD_SIZE);
-        __builtin_memcpy(pages[1] + asked->place * CELL_SIZE, cell, CELL_SIZE);
-    }
+    set_two_bytes(in.bytes + AT_PLACE, place_field(asked->book, asked->place) & 0xffff);
+    if (asked->place < asked->places && asked->book < MOST_BOOKS)
+        fill_cell(asked, &in);
     in.bytes[chance_below(RECORD_SIZE)] ^= (uint8_t)chance_below(2);
-    agree_on_take(&asked->table, pages[0], pages[1], size, &in);
+    agree_on_take(sharing_asked(asked), pages[0], pages[1], size, &in);
     try_run(asked, size, &in);
-    agree_on_read(mode, &asked->table, pages[0], size, asked->place, beside(asked->length));
+    agree_on_read(mode, sharing_asked(asked), pages[0], size, asked->place, beside(asked->length));
 }
 
 void compare_calls(void)

@@ -5,10 +5,11 @@
 
 #include <stdio.h>
 
-typedef struct plain_sending send_call(const uint8_t *table, uint64_t table_length, const float *run, uint64_t run_length,
-                                       uint8_t *buffer, uint64_t buffer_length);
-typedef uint64_t send_item_call(const uint8_t *table, uint64_t table_length, const float *run, uint64_t run_length, uint8_t *buffer,
-                                uint64_t buffer_length, uint64_t which);
+typedef struct plain_sending send_call(const uint8_t *table, uint64_t table_length, uint64_t books, uint64_t book,
+                                       const float *run, uint64_t run_length, uint8_t *buffer, uint64_t buffer_length);
+typedef uint64_t send_item_call(const uint8_t *table, uint64_t table_length, uint64_t books, uint64_t book,
+                                const float *run, uint64_t run_length, uint8_t *buffer, uint64_t buffer_length,
+                                uint64_t which);
 
 enum { MOST_STEPPED = 256 }; /* the places of a page that is run step by step */
 
@@ -29,7 +30,8 @@ static void run_send(any_call *call, uint64_t places)
     const struct sent_page *page = places < whole.setting.places ? &part : &whole;
     const struct setting *of = &page->setting;
     for (uint64_t sent = 0; sent < places; sent += of->places)
-        send_it(of->table.bytes, of->table.size, page->run, page->run_length, buffer, RECORD_SIZE * of->places);
+        send_it(of->table.bytes, of->table.size, of->books, 0, page->run, page->run_length, buffer,
+                RECORD_SIZE * of->places);
 }
 
 static void run_send_item(any_call *call, uint64_t places)
@@ -38,7 +40,8 @@ static void run_send_item(any_call *call, uint64_t places)
     const struct sent_page *page = places < whole.setting.places ? &part : &whole;
     const struct setting *of = &page->setting;
     for (uint64_t sent = 0; sent < places; sent += of->places)
-        send_it(of->table.bytes, of->table.size, page->run, page->run_length, buffer, RECORD_SIZE * of->places, 0);
+        send_it(of->table.bytes, of->table.size, of->books, 0, page->run, page->run_length, buffer,
+                RECORD_SIZE * of->places, 0);
 }
 
 /* The same rows, each with as many times fewer places as there are to be fewer in all. */
@@ -60,7 +63,7 @@ static void draw_page(struct sent_page *page, struct setting setting)
         __builtin_memcpy(page->run + page->run_length, in.values, in.length * sizeof *page->run);
         page->run_length += in.length;
     }
-    if (agree_on_send(&setting.table, page->run, page->run_length, RECORD_SIZE * setting.places) != 0)
+    if (agree_on_send(sharing_of(&setting, 0), page->run, page->run_length, RECORD_SIZE * setting.places) != 0)
         fail("send", "refused");
 }
 

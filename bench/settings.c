@@ -1,6 +1,7 @@
 /* The pairing tables that the calls are measured with: one of a row, and one of 32 rows of all lengths with 4,096
    places; for whole pages one of a row of 4,096 places of length 16; and one of a row with the magnitude enumeration,
-   and one with the product-product enumeration. The others have the product enumeration. */
+   and one with the product-product enumeration. The others have the product enumeration. Each has one book, but for the
+   table of a row once more, which 16 books share. */
 
 #include "bench.h"
 
@@ -9,6 +10,7 @@ enum { PLACES = 128, STEP = 64 }; /* of each row */
 struct setting settings[SETTINGS] = {{.name = "1 row"}, {.name = "32 rows"}};
 struct setting long_page = {.name = "4,096 places of length 16"};
 struct setting other_rows[OTHER_ROWS] = {{.name = "1 magnitude row"}, {.name = "1 product-product row"}};
+struct setting many_books = {.name = "1 row, 16 books"};
 
 static void begin_row(uint8_t *row, uint64_t length, uint64_t number)
 {
@@ -23,6 +25,7 @@ static void begin_one_row(struct setting *setting, uint64_t length, uint64_t pla
     const uint8_t radii[MOST_RADII] = {0, 1, 2, 4, 6, 8, 10, 12};
     setting->table.size = ROW_SIZE;
     setting->places = places;
+    setting->books = 1;
     begin_row(setting->table.bytes, length, MOST_RADII);
     set_two_bytes(setting->table.bytes + AT_PLACES, places);
     __builtin_memcpy(setting->table.bytes + AT_RADII, radii, sizeof radii);
@@ -33,6 +36,7 @@ static void begin_rows(struct setting *setting)
 {
     setting->table.size = ROW_SIZE * MOST_ROWS;
     setting->places = PLACES * MOST_ROWS;
+    setting->books = 1;
     for (uint64_t number = 0; number < MOST_ROWS; number++) {
         uint8_t *row = setting->table.bytes + number * ROW_SIZE;
         const uint64_t length = 1 + number * 5 % MOST_LENGTH, radii = 5 + number % 4;
@@ -51,6 +55,18 @@ void begin_settings(void)
         begin_one_row(&other_rows[i], 8, PLACES);
         other_rows[i].table.bytes[AT_SELECTOR] = (uint8_t)(MAGNITUDE + i);
     }
+    begin_one_row(&many_books, 8, PLACES);
+    many_books.books = MOST_BOOKS;
+}
+
+uint64_t page_size(const struct setting *setting)
+{
+    return CELL_SIZE * setting->places * setting->books;
+}
+
+struct sharing sharing_of(const struct setting *setting, uint64_t book)
+{
+    return (struct sharing){&setting->table, setting->books, book};
 }
 
 /* Of a table whose rows have 128 places each. */
@@ -69,10 +85,16 @@ uint64_t named_index(struct shell shell)
     return index;
 }
 
-/* Any radius of the row of the place, and any point. */
-void sound_record(const struct setting *setting, uint64_t place, uint8_t *record)
+uint64_t field_of(const struct setting *setting, uint64_t cell)
 {
+    return place_field(cell / setting->places, cell % setting->places);
+}
+
+/* Any radius of the row of the cell's place, and any point. */
+void sound_record(const struct setting *setting, uint64_t cell, uint8_t *record)
+{
+    const uint64_t place = cell % setting->places;
     const uint8_t *row = row_for(setting, place);
-    const uint64_t number = chance_below(row[AT_NUMBER_OF_RADII]);
-    write_record(record, place, place / PLACES, number, named_index(shell_of(row, number)));
+    const uint64_t number = chance_below(row[AT_NUMBER_OF_RADII]), index = named_index(shell_of(row, number));
+    write_record(record, field_of(setting, cell), place / PLACES, number, index);
 }

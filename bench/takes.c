@@ -1,18 +1,19 @@
 /* Taking: records for a page that has heard of every place, one by one, and all of them as a run. Of 16 records 13 are
-   for places by chance, of which every fourth is contested and the others hold this very record; one is for no place of
-   the table, one is of a foreign row, and one is a byte short. In a run only the last one is short. So each take leaves
-   the page as it is, however often it is run. That a place is held or contested comes about before, and is compared. */
+   for places by chance, in any of the books, of which every fourth is contested and the others hold this very record;
+   one is for no place of the table or no book of the page, one is of a foreign row, and one is a byte short. In a run
+   only the last one is short. So each take leaves the page as it is, however often it is run. That a place is held or
+   contested comes about before, and is compared. */
 
 #include "bench.h"
 
 #include <stdio.h>
 
-typedef uint32_t take_call(const uint8_t *table, uint64_t table_length, uint8_t *page, uint64_t page_length, const uint8_t *record,
-                           uint64_t record_length);
-typedef uint64_t take_item_call(const uint8_t *table, uint64_t table_length, uint8_t *page, uint64_t page_length, const uint8_t *record,
-                                uint64_t record_length, uint64_t which);
-typedef uint64_t collect_call(const uint8_t *table, uint64_t table_length, uint8_t *page, uint64_t page_length, const uint8_t *bytes,
-                              uint64_t bytes_length);
+typedef uint32_t take_call(const uint8_t *table, uint64_t table_length, uint64_t books, uint8_t *page,
+                           uint64_t page_length, const uint8_t *record, uint64_t record_length);
+typedef uint64_t take_item_call(const uint8_t *table, uint64_t table_length, uint64_t books, uint8_t *page,
+                                uint64_t page_length, const uint8_t *record, uint64_t record_length, uint64_t which);
+typedef uint64_t collect_call(const uint8_t *table, uint64_t table_length, uint64_t books, uint8_t *page,
+                              uint64_t page_length, const uint8_t *bytes, uint64_t bytes_length);
 
 /* What is wrong with a record; nothing with most of them. */
 enum { NO_PLACE, FOREIGN_ROW, SHORT, RIGHT, KINDS = 16, CONTESTED_IN = 4 };
@@ -20,53 +21,66 @@ enum { NO_PLACE, FOREIGN_ROW, SHORT, RIGHT, KINDS = 16, CONTESTED_IN = 4 };
 static const struct setting *setting; /* the one that is measured */
 static struct record arrivals[INPUTS];
 static uint8_t run[RECORD_SIZE * INPUTS]; /* their bytes */
-static struct record first[MOST_PLACES];          /* the first that comes for each place */
-static uint8_t pages[2][MOST_PLACES * CELL_SIZE]; /* ours, and that of plain C */
+static struct record first[MOST_CELLS];          /* the first that comes for each cell */
+static uint8_t pages[2][MOST_CELLS * CELL_SIZE]; /* ours, and that of plain C */
 
 static void run_take(any_call *call, uint64_t inputs)
 {
     take_call *const take_it = (take_call *)call;
+    const uint64_t size = page_size(setting);
     for (const struct record *in = arrivals; in < arrivals + inputs; in++)
-        take_it(setting->table.bytes, setting->table.size, pages[1], setting->places * CELL_SIZE, in->bytes, in->length);
+        take_it(setting->table.bytes, setting->table.size, setting->books, pages[1], size, in->bytes, in->length);
 }
 
 static void run_take_item(any_call *call, uint64_t inputs)
 {
     take_item_call *const take_it = (take_item_call *)call;
+    const uint64_t size = page_size(setting);
     for (const struct record *in = arrivals; in < arrivals + inputs; in++)
-        take_it(setting->table.bytes, setting->table.size, pages[0], setting->places * CELL_SIZE, in->bytes, in->length, 0);
+        take_it(setting->table.bytes, setting->table.size, setting->books, pages[0], size, in->bytes, in->length, 0);
 }
 
 static void run_collect(any_call *call, uint64_t inputs)
 {
     collect_call *const collect_it = (collect_call *)call;
-    collect_it(setting->table.bytes, setting->table.size, pages[0], setting->places * CELL_SIZE, run, RECORD_SIZE * inputs - 1);
+    collect_it(setting->table.bytes, setting->table.size, setting->books, pages[0], page_size(setting), run,
+               RECORD_SIZE * inputs - 1);
 }
 
 static uint64_t agree(const struct record *in)
 {
-    return agree_on_take(&setting->table, pages[0], pages[1], setting->places * CELL_SIZE, in);
+    return agree_on_take(sharing_of(setting, 0), pages[0], pages[1], page_size(setting), in);
 }
 
-/* The first record for each place; then another one where the place is to be contested. */
+/* The first record for each place of each book; then another one where the place is to be contested. */
 static void fill_pages(void)
 {
     __builtin_memset(pages, 0, sizeof pages);
-    for (uint64_t place = 0; place < setting->places; place++) {
-        first[place].length = RECORD_SIZE;
-        sound_record(setting, place, first[place].bytes);
-        struct record other = first[place];
+    for (uint64_t cell = 0; cell < setting->places * setting->books; cell++) {
+        first[cell].length = RECORD_SIZE;
+        sound_record(setting, cell, first[cell].bytes);
+        struct record other = first[cell];
         other.bytes[AT_CODEWORD]++;
-        if (agree(&first[place]) != 0 || (place % CONTESTED_IN == 0 && agree(&other) != 0))
+        if (agree(&first[cell]) != 0 || (cell % CONTESTED_IN == 0 && agree(&other) != 0))
             fail("take", "refused");
     }
 }
 
+/* A place field of no cell: its book is not below the number of books, or its place is not in the table. */
+static uint64_t no_field(void)
+{
+    uint64_t field;
+    do
+        field = chance_below(MOST_BOOKS * MOST_PLACES);
+    while (book_in(field) < setting->books && place_in(field) < setting->places);
+    return field;
+}
+
 static struct record record_of_kind(uint64_t kind)
 {
-    struct record in = first[chance_below(setting->places)];
+    struct record in = first[chance_below(setting->places * setting->books)];
     if (kind == NO_PLACE)
-        set_two_bytes(in.bytes + AT_PLACE, setting->places + chance_below(MOST_PLACES));
+        set_two_bytes(in.bytes + AT_PLACE, no_field());
     if (kind == FOREIGN_ROW)
         in.bytes[AT_ROW]++;
     if (kind == SHORT)
@@ -86,14 +100,18 @@ static void draw_arrivals(void)
     }
 }
 
-/* The figures are those of one record, with its part of what is done once for the run. Of each 16 records those without
-   a place and of a foreign row are refused, and so is the last one, which is short. */
+/* Of each 16 records those without a place and of a foreign row are refused, and so is the last one, which is short. */
+static void compare_run(void)
+{
+    const uint64_t size = page_size(setting), refused = 2 * (INPUTS / KINDS) + 1;
+    if (agree_on_collect(sharing_of(setting, 0), pages[0], pages[1], size, run, sizeof run - 1) != refused)
+        fail("collect", "others refused than was meant");
+}
+
+/* The figures are those of one record, with its part of what is done once for the run. */
 static void measure_collect(void)
 {
-    const uint64_t size = setting->places * CELL_SIZE, refused = 2 * (INPUTS / KINDS) + 1;
     char what[NAME];
-    if (agree_on_collect(&setting->table, pages[0], pages[1], size, run, sizeof run - 1) != refused)
-        fail("collect", "others refused than was meant");
     snprintf(what, sizeof what, "collect, %s, a record", setting->name);
     measure((struct rivals){what,
                             {run_collect, (any_call *)probe_collect, (any_call *)empty_collect},
@@ -101,16 +119,19 @@ static void measure_collect(void)
                             INPUTS});
 }
 
+/* A run is measured into one book alone. */
 void bench_takes(const struct setting *with)
 {
     char what[NAME];
     setting = with;
     fill_pages();
     draw_arrivals();
+    compare_run();
     snprintf(what, sizeof what, "take, %s", setting->name);
     measure((struct rivals){what,
                             {run_take_item, (any_call *)probe_take, (any_call *)empty_take_item},
                             {run_take, (any_call *)plain_take, (any_call *)empty_take},
                             COUNTED});
-    measure_collect();
+    if (setting->books == 1)
+        measure_collect();
 }

@@ -4,8 +4,9 @@
 
 #include <stdio.h>
 
-typedef uint32_t quantize_call(const uint8_t *table, uint64_t table_length, uint64_t place, const float *coefficients,
-                               uint64_t coefficients_length, uint8_t *record, uint64_t record_length);
+typedef uint32_t quantize_call(const uint8_t *table, uint64_t table_length, uint64_t books, uint64_t book,
+                               uint64_t place, const float *coefficients, uint64_t coefficients_length, uint8_t *record,
+                               uint64_t record_length);
 
 static const struct setting *setting; /* the one that is measured */
 static struct coefficients vectors[INPUTS];
@@ -15,7 +16,8 @@ static void run_quantize(any_call *call, uint64_t inputs)
     static uint8_t record[RECORD_SIZE];
     quantize_call *const quantize_it = (quantize_call *)call;
     for (const struct coefficients *in = vectors; in < vectors + inputs; in++)
-        quantize_it(setting->table.bytes, setting->table.size, in->place, in->values, in->length, record, RECORD_SIZE);
+        quantize_it(setting->table.bytes, setting->table.size, setting->books, 0, in->place, in->values, in->length,
+                    record, RECORD_SIZE);
 }
 
 /* Uneven parts of a sum that is less than half a step off that of a radius. */
@@ -43,7 +45,7 @@ void bench_vectors(const struct setting *with)
     setting = with;
     for (uint64_t i = 0; i < INPUTS; i++) {
         vectors[i] = vector_for(setting, chance_below(setting->places));
-        if (agree_on_quantize(&setting->table, &vectors[i], RECORD_SIZE) != 0)
+        if (agree_on_quantize(sharing_of(setting, 0), &vectors[i], RECORD_SIZE) != 0)
             fail("quantize", "refused");
     }
     snprintf(what, sizeof what, "quantize, %s", setting->name);

@@ -1,4 +1,4 @@
-/* Taking a record into a page, or each of a run, and reading a place; docs/RULES.md, "The page". */
+/* Taking a record into a page, or each of a run, and reading a place; docs/RULES.md, "The page" and "Books". */
 
 #include "plain.h"
 
@@ -10,6 +10,7 @@ static int are_same(const uint8_t *one, const uint8_t *other)
     return all_of_one == all_of_other;
 }
 
+/* The book is a part of the field. */
 static int are_of_one_place(const uint8_t *one, const uint8_t *other)
 {
     return pair_at(one + AT_PLACE) == pair_at(other + AT_PLACE) && one[AT_ROW] == other[AT_ROW];
@@ -35,46 +36,50 @@ static inline uint32_t put_record(uint8_t *cell, const uint8_t *record)
     return 0;
 }
 
-/* "take | 7, 4, 8, 9, 12". The pass that checks the table finds the row of the record's place. */
-uint32_t plain_take(const uint8_t *table, uint64_t table_length, uint8_t *page, uint64_t page_length, const uint8_t *record,
-                    uint64_t record_length)
+/* "take | 17, 7, 4, 8, 9, 12". The pass that checks the table finds the row of the record's place. */
+uint32_t plain_take(const uint8_t *table, uint64_t table_length, uint64_t books, uint8_t *page, uint64_t page_length,
+                    const uint8_t *record, uint64_t record_length)
 {
     const int is_record = record_length == RECORD_SIZE;
-    const uint64_t place = is_record ? pair_at(record + AT_PLACE) : 0;
+    const uint64_t field = is_record ? pair_at(record + AT_PLACE) : 0;
+    const uint64_t book = plain_book(field), place = plain_place(field);
+    if (!are_books(books))
+        return 17;
     const struct survey survey = plain_survey(table, table_length, place);
     if (survey.places == 0)
         return 7;
-    if (page_length != CELL_SIZE * survey.places || !is_record)
+    if (page_length != CELL_SIZE * survey.places * books || !is_record)
         return 4;
-    if (place >= survey.places)
+    if (book >= books || place >= survey.places)
         return 8;
     if (record[AT_ROW] != survey.row)
         return 9;
-    return put_record(page + CELL_SIZE * place, record);
+    return put_record(page + plain_cell(survey.places, book, place), record);
 }
 
-/* Whether the take is refused. The record has 8 bytes, and the page its cells. A record claims its place if the place
-   is one of the record's own row. */
-int plain_claim(const struct row_ends *rows, uint8_t *page, const uint8_t *record)
+/* Whether the take is refused. The record has 8 bytes, and the page its cells. A record claims its place if there is
+   such a book, and the place is one of the record's own row. */
+int plain_claim(const struct row_ends *rows, uint64_t books, uint8_t *page, const uint8_t *record)
 {
-    const uint32_t place = pair_at(record + AT_PLACE), row = record[AT_ROW];
-    if (row >= rows->number || place < rows->ends[row] || place >= rows->ends[row + 1])
+    const uint64_t field = pair_at(record + AT_PLACE), book = plain_book(field), place = plain_place(field);
+    const uint32_t row = record[AT_ROW];
+    if (book >= books || row >= rows->number || place < rows->ends[row] || place >= rows->ends[row + 1])
         return 1;
-    return put_record(page + CELL_SIZE * place, record) != 0;
+    return put_record(page + plain_cell(rows->ends[rows->number], book, place), record) != 0;
 }
 
 /* "how many takes were refused". Where the rows end is found once. */
-uint64_t plain_collect(const uint8_t *table, uint64_t table_length, uint8_t *page, uint64_t page_length, const uint8_t *bytes,
-                       uint64_t bytes_length)
+uint64_t plain_collect(const uint8_t *table, uint64_t table_length, uint64_t books, uint8_t *page, uint64_t page_length,
+                       const uint8_t *bytes, uint64_t bytes_length)
 {
     const uint64_t places = plain_survey(table, table_length, 0).places;
     const uint64_t records = bytes_length / RECORD_SIZE, shorter = bytes_length % RECORD_SIZE != 0;
-    if (places == 0 || page_length != CELL_SIZE * places)
+    if (!are_books(books) || places == 0 || page_length != CELL_SIZE * places * books)
         return records + shorter;
     const struct row_ends rows = plain_row_ends(table, table_length);
     uint64_t refused = shorter;
     for (uint64_t i = 0; i < records; i++)
-        refused += (uint64_t)plain_claim(&rows, page, bytes + i * RECORD_SIZE);
+        refused += (uint64_t)plain_claim(&rows, books, page, bytes + i * RECORD_SIZE);
     return refused;
 }
 
@@ -106,8 +111,8 @@ static struct plain_reading look_at_held(uint64_t mode, const uint8_t *row, cons
 }
 
 /* Refusal 12, or what the cell shows, with its point or zeros in `out`. */
-struct plain_reading plain_look(uint64_t mode, const uint8_t *row, uint64_t row_number, const uint8_t *cell, uint64_t place,
-                                int32_t *out)
+struct plain_reading plain_look(uint64_t mode, const uint8_t *row, uint64_t row_number, const uint8_t *cell,
+                                uint64_t field, int32_t *out)
 {
     switch (cell[AT_STATE]) {
     case STATE_EMPTY:
@@ -115,7 +120,7 @@ struct plain_reading plain_look(uint64_t mode, const uint8_t *row, uint64_t row_
     case STATE_CONTESTED:
         return zeros(CONTESTED, 0, row[AT_LENGTH], out);
     case STATE_HELD:
-        if (pair_at(cell + AT_RECORD + AT_PLACE) == place && cell[AT_RECORD + AT_ROW] == row_number)
+        if (pair_at(cell + AT_RECORD + AT_PLACE) == field && cell[AT_RECORD + AT_ROW] == row_number)
             return look_at_held(mode, row, cell + AT_RECORD, out);
         break;
     default:
@@ -124,19 +129,23 @@ struct plain_reading plain_look(uint64_t mode, const uint8_t *row, uint64_t row_
     return (struct plain_reading){.refusal = 12};
 }
 
-/* "read | 16, 7, 8, 4, 12". */
-struct plain_reading plain_read(uint64_t mode, const uint8_t *table, uint64_t table_length, const uint8_t *page,
-                                uint64_t page_length, uint64_t place, int32_t *out, uint64_t out_length)
+/* "read | 16, 17, 7, 8, 4, 12". */
+struct plain_reading plain_read(uint64_t mode, const uint8_t *table, uint64_t table_length, uint64_t books,
+                                uint64_t book, const uint8_t *page, uint64_t page_length, uint64_t place, int32_t *out,
+                                uint64_t out_length)
 {
     if (mode >= MODES)
         return (struct plain_reading){.refusal = 16};
+    if (!are_books(books))
+        return (struct plain_reading){.refusal = 17};
     const struct survey survey = plain_survey(table, table_length, place);
     if (survey.places == 0)
         return (struct plain_reading){.refusal = 7};
-    if (place >= survey.places)
+    if (book >= books || place >= survey.places)
         return (struct plain_reading){.refusal = 8};
     const uint8_t *row = table + survey.row * ROW_SIZE;
-    if (page_length != CELL_SIZE * survey.places || out_length != row[AT_LENGTH])
+    if (page_length != CELL_SIZE * survey.places * books || out_length != row[AT_LENGTH])
         return (struct plain_reading){.refusal = 4};
-    return plain_look(mode, row, survey.row, page + CELL_SIZE * place, place, out);
+    const uint8_t *cell = page + plain_cell(survey.places, book, place);
+    return plain_look(mode, row, survey.row, cell, plain_field(book, place), out);
 }

@@ -86,23 +86,25 @@ struct survey plain_survey(const uint8_t *table, uint64_t table_length, uint64_t
 struct row_ends plain_row_ends(const uint8_t *table, uint64_t table_length);
 
 /* quantize.c */
-uint32_t plain_quantize(const uint8_t *table, uint64_t table_length, uint64_t place, const float *coefficients,
-                        uint64_t coefficients_length, uint8_t *record, uint64_t record_length);
+uint32_t plain_quantize(const uint8_t *table, uint64_t table_length, uint64_t books, uint64_t book, uint64_t place,
+                        const float *coefficients, uint64_t coefficients_length, uint8_t *record,
+                        uint64_t record_length);
 
-/* page.c: of the calls, and with a table that has passed its check */
-int plain_claim(const struct row_ends *rows, uint8_t *page, const uint8_t *record);
-struct plain_reading plain_look(uint64_t mode, const uint8_t *row, uint64_t row_number, const uint8_t *cell, uint64_t place,
-                                int32_t *out);
-uint32_t plain_take(const uint8_t *table, uint64_t table_length, uint8_t *page, uint64_t page_length, const uint8_t *record,
-                    uint64_t record_length);
-uint64_t plain_collect(const uint8_t *table, uint64_t table_length, uint8_t *page, uint64_t page_length, const uint8_t *bytes,
-                       uint64_t bytes_length);
-struct plain_reading plain_read(uint64_t mode, const uint8_t *table, uint64_t table_length, const uint8_t *page,
-                                uint64_t page_length, uint64_t place, int32_t *out, uint64_t out_length);
+/* page.c: of the calls, and with a table that has passed its check; the field is that of a place in its book */
+int plain_claim(const struct row_ends *rows, uint64_t books, uint8_t *page, const uint8_t *record);
+struct plain_reading plain_look(uint64_t mode, const uint8_t *row, uint64_t row_number, const uint8_t *cell,
+                                uint64_t field, int32_t *out);
+uint32_t plain_take(const uint8_t *table, uint64_t table_length, uint64_t books, uint8_t *page, uint64_t page_length,
+                    const uint8_t *record, uint64_t record_length);
+uint64_t plain_collect(const uint8_t *table, uint64_t table_length, uint64_t books, uint8_t *page, uint64_t page_length,
+                       const uint8_t *bytes, uint64_t bytes_length);
+struct plain_reading plain_read(uint64_t mode, const uint8_t *table, uint64_t table_length, uint64_t books,
+                                uint64_t book, const uint8_t *page, uint64_t page_length, uint64_t place, int32_t *out,
+                                uint64_t out_length);
 
 /* send.c */
-struct plain_sending plain_send(const uint8_t *table, uint64_t table_length, const float *run, uint64_t run_length, uint8_t *buffer,
-                                uint64_t buffer_length);
+struct plain_sending plain_send(const uint8_t *table, uint64_t table_length, uint64_t books, uint64_t book,
+                                const float *run, uint64_t run_length, uint8_t *buffer, uint64_t buffer_length);
 
 /* What a selector says of totals, widths and usable radii. */
 static inline const struct plain_order *order_of(uint64_t selector)
@@ -113,6 +115,32 @@ static inline const struct plain_order *order_of(uint64_t selector)
 static inline uint32_t pair_at(const uint8_t *high)
 {
     return (uint32_t)high[0] << 8 | high[1];
+}
+
+/* "Books": whether there can be so many, the place field and what it numbers, and where the cell of a place begins. */
+static inline int are_books(uint64_t books)
+{
+    return books - 1 < MOST_BOOKS;
+}
+
+static inline uint64_t plain_field(uint64_t book, uint64_t place)
+{
+    return book << PLACE_BITS | place;
+}
+
+static inline uint64_t plain_book(uint64_t field)
+{
+    return field >> PLACE_BITS;
+}
+
+static inline uint64_t plain_place(uint64_t field)
+{
+    return field & (MOST_PLACES - 1);
+}
+
+static inline uint64_t plain_cell(uint64_t places, uint64_t book, uint64_t place)
+{
+    return CELL_SIZE * (book * places + place);
 }
 
 #pragma GCC visibility pop

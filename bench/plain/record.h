@@ -85,14 +85,16 @@ static inline void put_pair(uint8_t *high, uint64_t number)
     high[1] = (uint8_t)number;
 }
 
-/* The record of a vector that has passed the checks, at a place of this row, which has this number. */
-static inline void write_record_of(const uint8_t *row, uint64_t row_number, uint64_t place, const float *coefficients, uint8_t *record)
+/* The record of a vector that has passed the checks, at a place of this row, which has this number. The place has this
+   field. */
+static inline void write_record_of(const uint8_t *row, uint64_t row_number, uint64_t field, const float *coefficients,
+                                   uint8_t *record)
 {
     struct parts parts;
     round_all(coefficients, row[AT_LENGTH], &parts);
     const uint32_t number = choose(row, parts.sum), radius = row[AT_RADII + number];
     const uint64_t index = radius == 0 ? 0 : codeword(row, coefficients, radius, &parts);
-    put_pair(record + AT_PLACE, place);
+    put_pair(record + AT_PLACE, field);
     record[AT_ROW] = (uint8_t)row_number;
     record[AT_RADIUS_NUMBER] = (uint8_t)number;
     put_pair(record + AT_CODEWORD, index >> 16);

@@ -1,5 +1,5 @@
 /* The listing program as plain C, for speed: it reads and writes in blocks and makes its own decimals; docs/RULES.md,
-   "Listing program". */
+   "Listing program". The page has one book, so the field of a place is the place. */
 
 #include "../plain/plain.h"
 #include "filling.h"
@@ -7,7 +7,7 @@
 #include <fcntl.h>
 #include <unistd.h>
 
-enum { BLOCK = 65536, MOST_LINE = 160 };
+enum { BLOCK = 65536, MOST_LINE = 160, ONE_BOOK = 1 };
 
 /* What is to be written, and how much of it there is. */
 static struct {
@@ -143,7 +143,7 @@ static uint64_t take_all(const uint8_t *table, uint64_t table_length)
     for (size_t size = sizeof block; size == sizeof block;) {
         size = fill(file, block, sizeof block);
         for (size_t at = 0; at + RECORD_SIZE <= size; at += RECORD_SIZE)
-            refused += (uint64_t)plain_claim(&rows, page, block + at);
+            refused += (uint64_t)plain_claim(&rows, ONE_BOOK, page, block + at);
         refused += size % RECORD_SIZE != 0;
     }
     close(file);

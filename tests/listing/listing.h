@@ -11,7 +11,8 @@
 
 enum {
     MOST_CAPTURE = 300000, /* the bytes of the longest capture that is made */
-    F32_SIZE = 4           /* the bytes of a coefficient in a file */
+    F32_SIZE = 4,          /* the bytes of a coefficient in a file */
+    ONE_BOOK = 1           /* the books of a page that is sent or listed: so the field of a place is the place */
 };
 
 /* What came for each place, and how many takes are refused. */

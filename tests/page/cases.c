@@ -6,10 +6,10 @@ const char *const call_words[CALLS] = {"take ", "read ", "coefficient ", "tally 
 
 /* The lengths of the lists that refusals are: 7 names the row, and 12 of the tally the place. */
 static const uint8_t refusals[CALLS][MOST_REFUSAL + 1] = {
-    [OF_TAKE] = {[7] = 2, [4] = 1, [8] = 1, [9] = 1, [12] = 1},
-    [OF_READ] = {[16] = 1, [7] = 2, [8] = 1, [4] = 1, [12] = 1},
-    [OF_COEFFICIENT] = {[16] = 1, [7] = 2, [8] = 1, [4] = 1, [13] = 1, [12] = 1},
-    [OF_TALLY] = {[16] = 1, [7] = 2, [4] = 1, [12] = 2},
+    [OF_TAKE] = {[17] = 1, [7] = 2, [4] = 1, [8] = 1, [9] = 1, [12] = 1},
+    [OF_READ] = {[16] = 1, [17] = 1, [7] = 2, [8] = 1, [4] = 1, [12] = 1},
+    [OF_COEFFICIENT] = {[16] = 1, [17] = 1, [7] = 2, [8] = 1, [4] = 1, [13] = 1, [12] = 1},
+    [OF_TALLY] = {[16] = 1, [17] = 1, [7] = 2, [8] = 1, [4] = 1, [12] = 2},
 };
 
 static uint64_t read_next_number(struct text *text)
@@ -18,19 +18,29 @@ static uint64_t read_next_number(struct text *text)
     return read_number(text);
 }
 
-/* The page before the call, which is also what a refusal must leave. */
-static void read_page(struct text *text, struct page_case *to)
+/* The page before the call, which is also what a refusal must leave. If it has the cells of all its books, they stand
+   there one after another. */
+static void read_page(struct text *text, struct page_case *to, uint64_t books)
 {
+    const uint64_t places = judge(to->table.bytes, to->table.size).places;
     read_word(text, " ");
     fill_page(&to->page, to->after, read_bytes(text, to->after, sizeof to->after));
+    to->page.books = books;
+    if (!is_no_number_of_books(books) && to->page.size == CELL_SIZE * places * books) {
+        to->page.places = places;
+        to->page.filled = books;
+    }
 }
 
-/* What the call is lent behind the table. */
+/* What the call is lent behind the mode. */
 static void read_lent(struct text *text, struct page_case *to)
 {
     const int has_place = to->call == OF_READ || to->call == OF_COEFFICIENT;
+    const uint64_t books = read_number_field(text);
+    read_table(text, &to->table);
+    to->book = to->call == OF_TAKE ? 0 : read_next_number(text);
     to->place = has_place ? read_next_number(text) : 0;
-    read_page(text, to);
+    read_page(text, to, books);
     to->number = has_place ? read_next_number(text) : 0;
     read_word(text, " ");
     if (to->call == OF_TAKE) {
@@ -91,7 +101,6 @@ void read_case(struct text *text, struct page_case *to)
     static read_rest *const answered[CALLS] = {read_page_after, read_reading, read_reading, read_counts};
     to->call = (enum of_call)read_one_of(text, call_words, CALLS);
     to->mode = to->call == OF_TAKE ? 0 : read_number_field(text);
-    read_table(text, &to->table);
     read_lent(text, to);
     to->bits = 0;
     if (read_answer(text, &to->expected, refusals[to->call]))

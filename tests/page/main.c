@@ -20,9 +20,20 @@ static void hold_take(const char *name, struct page_case *held)
     expect_take(name, probe_take, &(struct taking){&held->table, &held->page, &held->arrival, before, held->expected});
 }
 
+/* What is asked of the page; the tally is asked about no place, and has no number. */
+static struct question asked(const struct page_case *held)
+{
+    return (struct question){.mode = held->mode,
+                             .table = &held->table,
+                             .page = &held->page,
+                             .book = held->book,
+                             .place = held->place,
+                             .number = held->number};
+}
+
 static void hold_read(const char *name, struct page_case *held)
 {
-    const struct question question = {held->mode, &held->table, &held->page, held->place, held->number};
+    const struct question question = asked(held);
     int32_t point[MOST_LENGTH];
     hold_list(name, read_place(&question, point), held->expected);
     for (uint64_t i = 0; held->expected.items[0] == 0 && i < held->number; i++)
@@ -32,7 +43,7 @@ static void hold_read(const char *name, struct page_case *held)
 
 static void hold_coefficient(const char *name, struct page_case *held)
 {
-    const struct question question = {held->mode, &held->table, &held->page, held->place, held->number};
+    const struct question question = asked(held);
     uint32_t bits;
     hold_list(name, coefficient(&question, &bits), held->expected);
     own_figure(name, bits, held->bits);
@@ -41,8 +52,9 @@ static void hold_coefficient(const char *name, struct page_case *held)
 
 static void hold_tally(const char *name, struct page_case *held)
 {
-    hold_list(name, tally(held->mode, &held->table, &held->page), held->expected);
-    expect_tally(name, probe_tally, held->mode, &held->table, &held->page, held->expected);
+    const struct question question = asked(held);
+    hold_list(name, tally(&question), held->expected);
+    expect_tally(name, probe_tally, &question, held->expected);
 }
 
 static void hold(struct text *text, const char *name)

@@ -13,8 +13,9 @@ struct page_case {
     enum of_call call;
     uint64_t mode; /* but for take */
     struct table table;
-    struct page page;       /* as it is before the call */
+    struct page page;       /* as it is before the call, with the number of books that the call is told */
     struct arrival arrival; /* what take is lent */
+    uint64_t book;          /* but for take */
     uint64_t place;         /* for read and coefficient */
     uint64_t number;        /* read: the length of the output; coefficient: the coordinate */
     struct list expected;

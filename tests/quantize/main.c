@@ -13,15 +13,17 @@ struct quantize_case {
 };
 
 /* The lengths of the lists that refusals are: 7 names the row, 11 the coordinate. */
-static const uint8_t refusals[MOST_REFUSAL + 1] = {[7] = 2, [8] = 1, [4] = 1, [11] = 2};
+static const uint8_t refusals[MOST_REFUSAL + 1] = {[17] = 1, [7] = 2, [8] = 1, [4] = 1, [11] = 2};
 
 static uint64_t refused[MOST_REFUSAL + 1]; /* 0 for a record that is written */
 
 static void read_vector(struct text *text, struct vector *to)
 {
     read_word(text, "quantize ");
+    to->books = read_number_field(text);
     read_table(text, &to->table);
     read_word(text, " ");
+    to->book = read_number_field(text);
     to->place = read_number_field(text);
     to->length = read_coefficients(text, to->coefficients, MOST_LENT);
     read_word(text, " ");

@@ -6,9 +6,12 @@
 
 enum { MOST_LINE = 64 };
 
-/* "A file that is not a whole number of fours is a run of a wrong length." A sender has room for all records. */
+/* "A file that is not a whole number of fours is a run of a wrong length." A sender has room for all records, and all
+   of them are of book 0. */
 void answer(struct sending *sending, uint64_t size, struct sent *to)
 {
+    sending->books = ONE_BOOK;
+    sending->book = 0;
     sending->run_length = size % F32_SIZE == 0 ? size / F32_SIZE : UINT64_MAX;
     sending->buffer_length = RECORD_SIZE * judge(sending->table.bytes, sending->table.size).places;
     send_page(sending, to);

@@ -1,5 +1,5 @@
-/* What docs/RULES.md says of single counts and takes, as it stands there: none of the rules of tests/second comes
-   between. See "Points and counts", "The page", "Worked cases" and "Calls for C". */
+/* What docs/RULES.md says of single counts, and of single takes into pages of one book, as it stands there: none of
+   the rules of tests/second comes between. See "Points and counts", "The page", "Worked cases" and "Calls for C". */
 
 #include "slate.h"
 
@@ -16,7 +16,7 @@ static const struct {
 
 /* `pairing.bin`, the two records of `records.bin`, the first one with a bit of its codeword changed, the first one with
    another row, and two of a place that is not there. */
-static const uint8_t pairing[] = {3, 2, 0, 2, 0, 0, 0, 0, 0, 0, 1, 0, 0, 2, 0, 0};
+const uint8_t two_places[ROW_SIZE] = {3, 2, 0, 2, 0, 0, 0, 0, 0, 0, 1, 0, 0, 2, 0, 0};
 static const uint8_t first[] = {0, 0, 0, 1, 0, 0, 0, 0x05}, second[] = {0, 1, 0, 1, 0, 0, 0, 0x12};
 static const uint8_t changed[] = {0, 0, 0, 1, 0, 0, 0, 0x07}, foreign[] = {0, 0, 1, 1, 0, 0, 0, 0x05};
 static const uint8_t past[] = {0, 2, 0, 1, 0, 0, 0, 0x05}, foreign_past[] = {0, 2, 1, 1, 0, 0, 0, 0x05};
@@ -74,7 +74,7 @@ static const struct {
     uint8_t radius;
 } totals[] = {{9, 27}, {10, 22}, {13, 15}, {16, 12}};
 
-static void compare_case(const char *call, uint64_t number, uint64_t expected, uint64_t got)
+void compare_case(const char *call, uint64_t number, uint64_t expected, uint64_t got)
 {
     if (got != expected) {
         printf("%s, case %lu of the rules: expected %lu, got %lu\n", call, number, expected, got);
@@ -88,7 +88,8 @@ static void compare_takes(void)
     for (uint64_t i = 0; i < ENTRIES(takes); i++) {
         page[takes[i].at] = takes[i].byte;
         compare_case("aldrynja_take", i, takes[i].answer,
-                     aldrynja_take(pairing, takes[i].table_length, page, takes[i].page_length, takes[i].record, takes[i].length));
+                     aldrynja_take(two_places, takes[i].table_length, 1, page, takes[i].page_length, takes[i].record,
+                                   takes[i].length));
         for (uint64_t j = 0; j < sizeof page; j++)
             compare_case("the page of aldrynja_take", i, takes[i].page[j], page[j]);
     }
@@ -104,7 +105,7 @@ static void compare_rows_at(uint8_t place)
         const int is_taken = place < PLACES && row == own_row;
         uint8_t page[PLACES * CELL_SIZE] = {0};
         compare_case("aldrynja_take, a row", (uint64_t)row, is_taken ? ALDRYNJA_TAKEN : other_row,
-                     aldrynja_take(three_places, sizeof three_places, page, sizeof page, record, RECORD_SIZE));
+                     aldrynja_take(three_places, sizeof three_places, 1, page, sizeof page, record, RECORD_SIZE));
         for (uint64_t j = 0; j < sizeof page; j++) {
             const int is_in_cell = is_taken && j / CELL_SIZE == place;
             const uint8_t held = j % CELL_SIZE == AT_STATE ? 1 : record[j % CELL_SIZE - AT_RECORD];
@@ -123,7 +124,7 @@ static void compare_selectors(void)
         uint8_t page[PLACES * CELL_SIZE] = {0};
         table[ROW_SIZE + AT_SELECTOR] = (uint8_t)selector;
         compare_case("aldrynja_take, a selector", (uint64_t)selector, selector < 3 ? ALDRYNJA_TAKEN : ALDRYNJA_BAD_TABLE,
-                     aldrynja_take(table, sizeof table, page, sizeof page, first, sizeof first));
+                     aldrynja_take(table, sizeof table, 1, page, sizeof page, first, sizeof first));
         compare_case("the state of place 0, a selector", (uint64_t)selector, selector < 3, page[AT_STATE]);
     }
 }
@@ -140,15 +141,15 @@ static void compare_totals(void)
                 uint8_t page[CELL_SIZE] = {0};
                 const int is_bad = selector == 2 && less == 0;
                 compare_case("aldrynja_take, a total", i, is_bad ? ALDRYNJA_BAD_TABLE : ALDRYNJA_TAKEN,
-                             aldrynja_take(table, sizeof table, page, sizeof page, first, sizeof first));
+                             aldrynja_take(table, sizeof table, 1, page, sizeof page, first, sizeof first));
                 compare_case("the state of place 0, a total", i, is_bad ? 0 : 1, page[AT_STATE]);
             }
 }
 
 void compare_cases(void)
 {
-    compare_case("the version of the header", 0, 4, ALDRYNJA_VERSION);
-    compare_case("aldrynja_version", 0, 4, aldrynja_version());
+    compare_case("the version of the header", 0, 5, ALDRYNJA_VERSION);
+    compare_case("aldrynja_version", 0, 5, aldrynja_version());
     for (uint64_t i = 0; i < ENTRIES(counts); i++)
         compare_case("aldrynja_count", i, counts[i].n, aldrynja_count(counts[i].length, counts[i].radius));
     compare_takes();

@@ -1,12 +1,12 @@
 /* The refusals of aldrynja_take, each alone and together with others, so that the order of checks is compared
-   too; every state; and bad tables of every kind. See docs/RULES.md, "Refusal numbers", "Order of checks" and
+   too; every state; and bad tables of every kind. See docs/RULES.md, "Refusal numbers", "Order of checks", "Books" and
    "Pairing table". */
 
 #include "slate.h"
 
 #include <stdio.h>
 
-enum { BAD_TABLES = 200 };
+enum { BAD_TABLES = 200, FEW_BOOKS = 2 };
 
 static struct page page;
 
@@ -38,12 +38,12 @@ static void compare_state(const struct case_of_page *right)
 static void compare_bad_tables(void)
 {
     struct case_of_page of = right_case(&page, small_table_by_chance());
-    begin_page(&page, MOST_PLACES);
+    begin_books(&page, MOST_PLACES, FEW_BOOKS);
     for (int i = 0; i < BAD_TABLES * FAULTS; i++) {
         of.table = bad_table_by_chance((enum fault)(i / BAD_TABLES));
-        const uint64_t places = places_of_rows(&of.table);
-        page.size = CELL_SIZE * places;
-        set_place(&of.table, places > 0 ? chance_below(places) : 0, of.arrival.bytes);
+        const uint64_t places = places_of_rows(&of.table), place = places > 0 ? chance_below(places) : 0;
+        page.size = CELL_SIZE * places * FEW_BOOKS;
+        set_place(&of.table, place_field(chance_below(FEW_BOOKS), place), of.arrival.bytes);
         own_figure("refusal of a take with a bad table", take_of(&of), 7);
     }
 }

@@ -1,12 +1,13 @@
-/* Takes by chance into pages of every size that go on growing: from empty ones, and from ones with cells of every state
-   and at fault; records that are held already, that differ in one byte or in several, that are of another row, and that
-   are not in the table; lengths that are wrong, and tables that are bad. See docs/RULES.md, "The page". */
+/* Takes by chance into pages of every size and every number of books that go on growing: from empty ones, and from ones
+   with cells of every state and at fault; records that are held already, that differ in one byte or in several, that
+   are of another row or of another book, and that are not in the table or of a book that is not there; lengths and
+   numbers of books that are wrong, and tables that are bad. See docs/RULES.md, "The page" and "Books". */
 
 #include "slate.h"
 
 #include <stdio.h>
 
-enum { TAKES_OF_CLASS = 600000, TAKES_OF_TABLE = 400, RECENT = 8 };
+enum { TAKES_OF_CLASS = 525000, TAKES_OF_TABLE = 400, RECENT = 8, ONE_LARGE_IN = 32 };
 
 /* How a page begins, and whether cells are drawn anew between the takes. */
 enum manner { FROM_EMPTY, FROM_DRAWN, DRAWN_ANEW, MANNERS };
@@ -17,7 +18,7 @@ struct growing {
     struct table bad[2];
     enum manner manner;
     uint64_t takes;          /* that it has had so far */
-    uint64_t recent[RECENT]; /* the places that they were at */
+    uint64_t recent[RECENT]; /* the place fields that they were at */
 };
 
 static struct page page;
@@ -49,29 +50,41 @@ static struct table spoiled(const struct table *good)
     return table;
 }
 
+/* A number of books for pages of so many places: any, or mostly few where the pages would become large, since every
+   byte of them is compared after each take. */
+static uint64_t some_books(uint64_t places)
+{
+    const uint64_t few = MOST_PLACES / places, is_any = few > MOST_BOOKS || chance_below(ONE_LARGE_IN) == 0;
+    return 1 + chance_below(is_any ? MOST_BOOKS : few);
+}
+
 static void begin_anew(const struct growing *growing)
 {
     if (growing->manner == FROM_EMPTY)
-        begin_page(&page, page.places);
+        begin_books(&page, page.places, page.filled);
     else
-        page_by_chance(&page, &growing->table, 8);
+        pages_by_chance(&page, &growing->table, page.filled, 8);
 }
 
-/* A place that had a record lately, or any. */
-static uint64_t next_place(struct growing *growing)
+/* A place that had a record lately, the same place in any book, or any. */
+static uint64_t next_field(struct growing *growing)
 {
-    const uint64_t choice = chance_below(4), recent = growing->recent[chance_below(RECENT)];
-    const uint64_t place = choice == 0 ? some_place(&growing->table) : choice == 1 ? chance_below(page.places) : recent;
-    growing->recent[growing->takes % RECENT] = place;
-    return place;
+    const uint64_t choice = chance_below(6), recent = growing->recent[chance_below(RECENT)];
+    const uint64_t book = chance_below(page.filled);
+    const uint64_t any = choice == 0 ? some_place(&growing->table) : chance_below(page.places);
+    const uint64_t field = choice > 2 ? recent : place_field(book, choice == 2 ? place_in(recent) : any);
+    growing->recent[growing->takes % RECENT] = field;
+    return field;
 }
 
 /* A record for the place, with bytes behind it that repeat it, so that it may be lent too long. */
-static struct arrival record_at(const struct growing *growing, uint64_t place)
+static struct arrival record_at(const struct growing *growing, uint64_t field)
 {
-    struct arrival record = arrival_by_chance(&growing->table, &page, place);
+    struct arrival record = arrival_by_chance(&growing->table, &page, field);
     if (chance_below(16) == 0)
-        set_two_bytes(record.bytes + AT_PLACE, place_past_end(page.places));
+        set_two_bytes(record.bytes + AT_PLACE, field_past_end(&page));
+    if (chance_below(16) == 0)
+        change_book(record.bytes);
     if (chance_below(32) == 0)
         record.length = other_than(RECORD_SIZE, MOST_TAKEN);
     if (chance_below(64) == 0)
@@ -81,28 +94,41 @@ static struct arrival record_at(const struct growing *growing, uint64_t place)
     return record;
 }
 
+/* What the call is told of the page: at times a wrong size, a number of books that there may not be, or another one. */
+static void tell_wrong(void)
+{
+    const uint64_t choice = chance_below(64);
+    if (choice < 2)
+        page.size = wrong_page_size(&page);
+    else if (choice < 4)
+        page.books = no_books_by_chance(page.filled);
+    else if (choice == 4)
+        page.books = 1 + chance_below(MOST_BOOKS);
+}
+
 static void compare_next(struct growing *growing)
 {
-    const uint64_t place = next_place(growing);
+    const uint64_t field = next_field(growing);
     if (growing->manner == DRAWN_ANEW && chance_below(4))
-        draw_cell(&page, &growing->table, place, 6);
-    const struct arrival record = record_at(growing, place);
+        draw_cell(&page, &growing->table, field, 6);
+    const struct arrival record = record_at(growing, field);
     const struct table *table = chance_below(32) ? &growing->table : growing->bad + chance_below(2);
-    if (chance_below(32) == 0)
-        page.size = wrong_page_size(&page);
+    tell_wrong();
     compare_lending(&(struct lending){.table = table, .page = &page, .record = &record});
-    page.size = CELL_SIZE * page.places;
+    page.size = right_size(&page);
+    page.books = page.filled;
     growing->takes++;
 }
 
-/* The takes of one table. A page of few places begins anew once most of them must be contested. */
+/* The takes of one table. A page of few cells begins anew once most of them must be contested. */
 static uint64_t compare_table(uint64_t places, uint64_t number)
 {
-    const uint64_t takes_of_table = TAKES_OF_TABLE + 2 * places, until_anew = 8 + 4 * places;
+    const uint64_t books = some_books(places), takes_of_table = TAKES_OF_TABLE + 2 * places;
+    const uint64_t until_anew = 8 + 4 * places * books;
     struct growing growing = {.table = table_of(places), .manner = (enum manner)(number % MANNERS)};
     growing.bad[0] = spoiled(&growing.table);
     growing.bad[1] = bad_table_by_chance((enum fault)(number / MANNERS % FAULTS));
-    begin_page(&page, places);
+    begin_books(&page, places, books);
     while (growing.takes < takes_of_table) {
         if (growing.takes % until_anew == 0)
             begin_anew(&growing);
@@ -122,5 +148,5 @@ void compare_growth(void)
             takes += of_table;
         }
     }
-    printf("growing pages: %lu takes on %lu tables of 1 to 4,096 places\n", takes, tables);
+    printf("growing pages: %lu takes on %lu tables of 1 to 4,096 places, with 1 to 16 books\n", takes, tables);
 }

@@ -20,6 +20,7 @@ enum outcome {
     OTHER_CONTESTED,
     ZEROS_STAYED,
     GARBAGE_STAYED,
+    WITH_17,
     WITH_7,
     WITH_4,
     WITH_8,
@@ -35,6 +36,7 @@ static const char *const outcome_names[OUTCOMES] = {
     [OTHER_CONTESTED] = "takes that make a held cell contested, in pages of places up to",
     [ZEROS_STAYED] = "takes with which a contested cell of zeros stays, in pages of places up to",
     [GARBAGE_STAYED] = "takes with which a contested cell with other bytes stays, in pages of places up to",
+    [WITH_17] = "takes refused with 17, in pages of places up to",
     [WITH_7] = "takes refused with 7, in pages of places up to",
     [WITH_4] = "takes refused with 4, in pages of places up to",
     [WITH_8] = "takes refused with 8, in pages of places up to",
@@ -76,6 +78,15 @@ static const char *const names[SLATE_KINDS] = {
     [EDGE_PAGE_SHORT] = "at the end of memory with a page that is too short",
     [EDGE_RECORD_SHORT] = "at the end of memory with a record that is too short",
     [EDGE_FOREIGN_ROW] = "at the end of memory that are refused with 9",
+    [EDGE_LATER_BOOK] = "at the end of memory of a book above 0 that are not refused",
+    [EDGE_BOOK_BEHIND] = "at the end of memory of the book that would lie behind it",
+    [BOOKS_CUT_8] = "with a number of books that is right where it is cut to 8 bits",
+    [BOOKS_CUT_32] = "with a number of books that is right where it is cut to 32 bits",
+    [BOOKS_CUT_63] = "with a number of books that is right where it is cut to 63 bits",
+    [OTHER_NUMBER_OF_BOOKS] = "refused with 4 with another number of books than those of the page",
+    [PLACE_OF_NEXT_BOOK] = "refused with 8 for a place whose cell would be one of the next book",
+    [FAULT_SAME_BUT_BOOK] = "refused with 12 for a held record that is the same but for its book",
+    [HELD_IN_OTHER_BOOK] = "that are not refused where another book holds the same place",
 };
 
 static uint64_t kinds[SLATE_KINDS], outcomes[CLASSES][OUTCOMES], fitting[FAULTS];
@@ -92,15 +103,15 @@ void note_answer(uint32_t refusal)
     takes++;
 }
 
-/* Refusal 7 with a record that is right and a page that is as large as the rows would have it: nothing but the
-   table is wrong. */
+/* Refusal 7 with a record that is right and a page that is as large as the rows and the books would have it: nothing
+   but the table is wrong. */
 static void note_fitting(const struct lending *lending)
 {
     const struct table *table = lending->table;
     const struct judgment judgment = judge(table->bytes, table->size);
     if (table->size > sizeof table->bytes || lending->record->length != RECORD_SIZE)
         return;
-    if (lending->page->size == CELL_SIZE * places_of_rows(table))
+    if (lending->page->size == CELL_SIZE * places_of_rows(table) * lending->page->books)
         for (int fault = 0; fault < FAULTS; fault++)
             fitting[fault] += judgment.faults >> fault & 1;
 }
@@ -109,7 +120,7 @@ static void note_fitting(const struct lending *lending)
 void note_lending(const struct lending *lending, uint64_t refusal)
 {
     const uint64_t table = lending->table->size, page = lending->page->size, record = lending->record->length;
-    const uint64_t right = CELL_SIZE * lending->page->places;
+    const uint64_t right = right_size(lending->page);
     const int is_4 = refusal == 4, page_alone = is_4 && record == RECORD_SIZE, record_alone = is_4 && page == right;
     const int is_null[] = {lending->to_table == TO_NULL, lending->to_page == TO_NULL, lending->to_record == TO_NULL};
     if (refusal == 7)
@@ -137,11 +148,12 @@ void note_lending(const struct lending *lending, uint64_t refusal)
 static enum outcome outcome_of(const struct taking *taking)
 {
     static const uint8_t zeros[RECORD_SIZE];
-    static const enum outcome refused[MOST_REFUSAL + 1] = {[7] = WITH_7, [4] = WITH_4, [8] = WITH_8, [9] = WITH_9, [12] = WITH_12};
+    static const enum outcome refused[MOST_REFUSAL + 1] = {[17] = WITH_17, [7] = WITH_7, [4] = WITH_4,
+                                                           [8] = WITH_8,   [9] = WITH_9, [12] = WITH_12};
     const uint64_t refusal = taking->expected.items[0];
     if (refusal != 0)
         return refused[refusal];
-    const uint8_t *before = taking->before, *after = cell_at(taking->page, two_bytes(taking->arrival->bytes + AT_PLACE));
+    const uint8_t *before = taking->before, *after = cell_at(taking->page, field_in(taking->arrival->bytes));
     const int is_zeros = memcmp(before + AT_RECORD, zeros, RECORD_SIZE) == 0;
     const int is_arrived = memcmp(after + AT_RECORD, taking->arrival->bytes, RECORD_SIZE) == 0;
     if (before[AT_STATE] == STATE_EMPTY && after[AT_STATE] == STATE_HELD && is_arrived)
@@ -174,11 +186,12 @@ void require_slate_kinds(void)
     for (int size_class = 0; size_class < CLASSES; size_class++)
         for (int outcome = 0; outcome < OUTCOMES; outcome++)
             require_number(outcomes[size_class][outcome], LEAST_OF_CLASS, outcome_names[outcome], most_places[size_class]);
+    require_each_book(LEAST);
     require(takes, LEAST_TAKES, "takes", "in all");
     printf("kinds: %lu of takes at least %lu times each, %d more at least %d times each, ", so_far.kinds, so_far.least, SLATE_KINDS,
            LEAST);
     printf("%d outcomes at least %d times each in each of %d classes of pages\n", OUTCOMES, LEAST_OF_CLASS, CLASSES);
     printf("agreed: every count, and %lu takes: %lu taken, ", takes, answers[0]);
-    printf("refused %lu with 7, %lu with 4, %lu with 8, ", answers[7], answers[4], answers[8]);
-    printf("%lu with 9, %lu with 12\n", answers[9], answers[12]);
+    printf("refused %lu with 17, %lu with 7, %lu with 4, ", answers[17], answers[7], answers[4]);
+    printf("%lu with 8, %lu with 9, %lu with 12\n", answers[8], answers[9], answers[12]);
 }

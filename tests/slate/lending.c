@@ -30,7 +30,8 @@ void call_take(const struct taking *taking, const uint8_t *table, uint8_t *page,
 {
     const uint32_t expected = (uint32_t)taking->expected.items[0];
     under_way = taking;
-    const uint32_t got = aldrynja_take(table, taking->table->size, page, taking->page->size, record, taking->arrival->length);
+    const uint32_t got = aldrynja_take(table, taking->table->size, taking->page->books, page, taking->page->size,
+                                       record, taking->arrival->length);
     under_way = 0;
     if (got != expected) {
         print_taking("aldrynja_take", taking);
@@ -62,5 +63,6 @@ uint64_t compare_lending(const struct lending *lending)
     note_lending(lending, taking.expected.items[0]);
     note_take(lending->table, lending->page, lending->record, before, taking.expected);
     note_outcome(&taking);
+    note_book_kinds(&taking);
     return taking.expected.items[0];
 }

@@ -17,6 +17,7 @@ int main(void)
     compare_sizes();
     compare_edges();
     compare_cases();
+    compare_book_cases();
     require_slate_kinds();
     return 0;
 }

@@ -1,11 +1,12 @@
 /* The sizes of what aldrynja_take is lent: every size of a table, buffers of no bytes by each pointer, numbers at the
-   ends of 64 bits, and numbers that are right only where they are cut. See docs/RULES.md, "Refusal numbers". */
+   ends of 64 bits, and numbers that are right only where they are cut; and every number of books that there may not be.
+   See docs/RULES.md, "Refusal numbers" and "Books". */
 
 #include "slate.h"
 
 #include <stdio.h>
 
-enum { MOST_SIZE = 600, FEW_PLACES = 3, EMPTY_TABLES = 250, END_TABLES = 100 };
+enum { MOST_SIZE = 600, FEW_PLACES = 3, FEW_BOOKS = 3, EMPTY_TABLES = 250, END_TABLES = 100 };
 
 /* A buffer as it must be, or with no bytes by each pointer. */
 enum { RIGHT, EMPTY, WAYS = 4 };
@@ -13,6 +14,9 @@ static const enum pointer pointers[WAYS] = {[RIGHT] = TO_ROOM, [EMPTY] = TO_ROOM
 
 /* The right size, and sizes that are right only where a number is cut, or that are at the ends. */
 enum { ENDS = 9 };
+
+/* A right table and a wrong one, a right record and a wrong one, three sizes of a page. */
+enum { BOOK_SETS = 2 * 2 * 3 };
 
 static struct page page;
 
@@ -24,8 +28,8 @@ static void compare_table_sizes(void)
     struct arrival record = {.length = RECORD_SIZE};
     for (table.size = 0; table.size <= MOST_SIZE; table.size++) {
         const uint64_t places = places_of_rows(&table);
-        begin_page(&page, places > 0 ? places : 1);
-        record_by_chance(&rows, chance_below(page.places), record.bytes);
+        begin_books(&page, places > 0 ? places : 1, 1 + chance_below(FEW_BOOKS));
+        record_by_chance(&rows, place_field(chance_below(page.filled), chance_below(page.places)), record.bytes);
         compare_lending(&(struct lending){.table = &table, .page = &page, .record = &record});
     }
 }
@@ -35,7 +39,7 @@ static void compare_empty(const struct case_of_page *right, int of_table, int of
     struct table table = right->table;
     struct arrival record = right->arrival;
     table.size = of_table == RIGHT ? table.size : 0;
-    page.size = of_page == RIGHT ? CELL_SIZE * page.places : 0;
+    page.size = of_page == RIGHT ? right_size(&page) : 0;
     record.length = of_record == RIGHT ? RECORD_SIZE : 0;
     const struct lending lending = {&table, &page, &record, pointers[of_table], pointers[of_page], pointers[of_record]};
     const uint64_t wanted = of_table != RIGHT ? 7 : of_page != RIGHT || of_record != RIGHT ? 4 : 0;
@@ -73,6 +77,24 @@ static void compare_ends_of(const struct case_of_page *right)
     }
 }
 
+/* Every number of books that there may not be, also where a table, a page or a record of a wrong size comes with it.
+   The page is right for the books that it has, or one byte shorter, or as large as that number would have it. */
+static void compare_no_books(const struct case_of_page *right)
+{
+    struct table table = right->table;
+    struct arrival record = right->arrival;
+    for (uint64_t i = 0; i < NO_BOOKS * BOOK_SETS; i++) {
+        const uint64_t set = i / NO_BOOKS, books = no_books[i % NO_BOOKS];
+        const uint64_t sizes[] = {right_size(&page), right_size(&page) - 1, CELL_SIZE * page.places * books};
+        table.size = right->table.size - set % 2;
+        record.length = RECORD_SIZE - set / 2 % 2;
+        page.size = sizes[set / 4];
+        page.books = books;
+        const uint64_t refusal = compare_lending(&(struct lending){.table = &table, .page = &page, .record = &record});
+        own_figure("refusal of a take with a number of books that there may not be", refusal, 17);
+    }
+}
+
 void compare_sizes(void)
 {
     compare_table_sizes();
@@ -84,7 +106,9 @@ void compare_sizes(void)
     for (int i = 0; i < END_TABLES; i++) {
         const struct case_of_page right = right_case(&page, small_table_by_chance());
         compare_ends_of(&right);
+        compare_no_books(&right);
     }
-    printf("sizes: %d of a table, %d sets of buffers of no bytes, %d sets of sizes at the ends\n", MOST_SIZE + 1,
+    printf("sizes: %d of a table, %d sets of buffers of no bytes, %d sets of sizes at the ends, ", MOST_SIZE + 1,
            WAYS * WAYS * WAYS, ENDS * ENDS * ENDS);
+    printf("%d numbers of books that there may not be\n", NO_BOOKS);
 }

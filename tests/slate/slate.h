@@ -23,12 +23,13 @@ struct lending {
     enum pointer to_record;
 };
 
-/* lending.c: one comparison of aldrynja_take with the rules in tests/second/rules/page.c, whose refusal is returned */
+/* lending.c: one comparison of aldrynja_take with the rules in tests/second/rules/page.c, whose refusal is returned.
+   The number of books is the one that the page tells. */
 void tell_faults(void);
 void call_take(const struct taking *taking, const uint8_t *table, uint8_t *page, const uint8_t *record);
 uint64_t compare_lending(const struct lending *lending);
 
-/* faults.c: the places of the whole rows of a table, good or bad, as far as the room for a page goes */
+/* faults.c: the places of the whole rows of a table, good or bad, as far as the room for a book goes */
 uint64_t places_of_rows(const struct table *table);
 
 /* kinds.c: how much was compared of each kind, and an error of the test itself where there was too little of one */
@@ -66,6 +67,15 @@ enum slate_kind {
     EDGE_PAGE_SHORT,
     EDGE_RECORD_SHORT,
     EDGE_FOREIGN_ROW,
+    EDGE_LATER_BOOK,
+    EDGE_BOOK_BEHIND,
+    BOOKS_CUT_8,
+    BOOKS_CUT_32,
+    BOOKS_CUT_63,
+    OTHER_NUMBER_OF_BOOKS,
+    PLACE_OF_NEXT_BOOK,
+    FAULT_SAME_BUT_BOOK,
+    HELD_IN_OTHER_BOOK,
     SLATE_KINDS
 };
 enum { CLASSES = 9 };
@@ -76,6 +86,14 @@ void note_lending(const struct lending *lending, uint64_t refusal);
 void note_outcome(const struct taking *taking);
 void require_slate_kinds(void);
 
+/* book_kinds.c: the kinds that the books of a take tell; and each book with each number of books */
+void note_book_kinds(const struct taking *taking);
+void require_each_book(uint64_t least);
+
+/* cases.c: the table of two places, of the whole case; and an error where a case of the rules is not as it must be */
+extern const uint8_t two_places[ROW_SIZE];
+void compare_case(const char *call, uint64_t number, uint64_t expected, uint64_t got);
+
 /* The comparisons, each in the file that its name says */
 void compare_counts(void);
 void compare_growth(void);
@@ -83,5 +101,6 @@ void compare_faults(void);
 void compare_sizes(void);
 void compare_edges(void);
 void compare_cases(void);
+void compare_book_cases(void);
 
 #endif

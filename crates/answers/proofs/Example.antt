@@ -36,6 +36,7 @@ example =
       refusal-13 = refl;
       refusal-15 = refl;
       refusal-16 = refl;
+      refusal-17 = refl;
       refusal-20 = refl;
       distance-named = refl;
       row-named = refl;

@@ -24,7 +24,7 @@ cellOf : List ℕ → Refusal
 cellOf [] = refusal.BadCell
 cellOf (place ∷ vs) = refusal.BadCellAt place
 
--- the refusals by number, with the values vs; no refusal has the numbers 0, 10, 14 and 17 to 19
+-- the refusals by number, with the values vs; no refusal has the numbers 0, 10, 14, 18 and 19
 byNumber : List ℕ → List Refusal
 byNumber vs =
     refusal.LengthOutside
@@ -44,7 +44,7 @@ byNumber vs =
     ∷ refusal.LengthOutside
     ∷ refusal.EmptyShape
     ∷ refusal.NoSuchMode
-    ∷ refusal.LengthOutside
+    ∷ refusal.BooksOutside
     ∷ refusal.LengthOutside
     ∷ refusal.LengthOutside
     ∷ refusal.NoSuchEnumeration
@@ -83,6 +83,7 @@ said (refusal.BadCellAt place) = says-back 11 (place ∷ []) refl refl (lit≤ t
 said refusal.NoSuchCoordinate = says-back 12 [] refl refl (lit≤ tt)
 said refusal.EmptyShape = says-back 14 [] refl refl (lit≤ tt)
 said refusal.NoSuchMode = says-back 15 [] refl refl (lit≤ tt)
+said refusal.BooksOutside = says-back 16 [] refl refl (lit≤ tt)
 said refusal.NoSuchEnumeration = says-back 19 [] refl refl (lit≤ tt)
 
 -- 7 is the refusal of a table

@@ -52,6 +52,7 @@ pub record Example : Type 0 where
   pub refusal-13 : numberOf refusal.NoSuchCoordinate ≡ 13
   pub refusal-15 : meaning refusal.EmptyShape ≡ 15 ∷ []
   pub refusal-16 : meaning refusal.NoSuchMode ≡ 16 ∷ []
+  pub refusal-17 : meaning refusal.BooksOutside ≡ 17 ∷ []
   pub refusal-20 : meaning refusal.NoSuchEnumeration ≡ 20 ∷ []
   pub distance-named : firstNamed (refusal.IndexPastEnd 18446744073709551597) ≡ 18446744073709551597
   pub row-named : firstNamed (refusal.BadTable 30) ≡ 30

@@ -25,6 +25,7 @@ meaning (refusal.BadCellAt place) = 12 ∷ place ∷ []
 meaning refusal.NoSuchCoordinate = 13 ∷ []
 meaning refusal.EmptyShape = 15 ∷ []
 meaning refusal.NoSuchMode = 16 ∷ []
+meaning refusal.BooksOutside = 17 ∷ []
 meaning refusal.NoSuchEnumeration = 20 ∷ []
 
 -- the number alone

@@ -18,7 +18,7 @@ pub enum Refusal {
     IndexPastEnd { distance: u64 },
     // 7: bad pairing table, with the first bad row
     BadTable { row: usize },
-    // 8: place not in the table
+    // 8: place not in the table, or book not below the number of books
     NoSuchPlace,
     // 9: row byte not the row of the record's place
     ForeignRow,
@@ -36,6 +36,8 @@ pub enum Refusal {
     EmptyShape,
     // 16: mode above 1
     NoSuchMode,
+    // 17: number of books outside 1 to 16
+    BooksOutside,
     // 20: enumeration selector above 2
     NoSuchEnumeration,
 }
@@ -70,6 +72,7 @@ pub fn in_numbers(refusal: Refusal) -> Numbers
         Refusal::NoSuchCoordinate => Numbers(13, 0, 0, 0),
         Refusal::EmptyShape => Numbers(15, 0, 0, 0),
         Refusal::NoSuchMode => Numbers(16, 0, 0, 0),
+        Refusal::BooksOutside => Numbers(17, 0, 0, 0),
         Refusal::NoSuchEnumeration => Numbers(20, 0, 0, 0),
     }
 }

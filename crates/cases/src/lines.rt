@@ -1,5 +1,7 @@
 // The lines of the input, one after the other: each is written again, and if it is a case, it is run. The room is
-// lent to the cases.
+// lent to the cases. What a line says of books holds until the next one that does.
+use crate::books;
+use crate::books::Shelf;
 use crate::checks;
 use crate::coefficients;
 use crate::indices;
@@ -11,10 +13,11 @@ ghost use Prim.Native.Nat.{_≤_};
 ghost use lib.ListN.{length};
 
 pub fn run(text: &[u8], room: &mut [u8]) {
+    let mut shelf = books::one();
     let mut from = 0;
     while from < text.len() {
         let to = line_end(text, from);
-        line(&text[from..to], room);
+        shelf = line(shelf, &text[from..to], room);
         from = to + 1;
     }
 }
@@ -34,17 +37,22 @@ fn line_end(text: &[u8], from: usize) -> usize
     to
 }
 
-fn line(line: &[u8], room: &mut [u8]) {
+// Writes and runs a line; the books that are meant after it.
+fn line(shelf: Shelf, line: &[u8], room: &mut [u8]) -> Shelf {
     output::words(line);
     let mut numbers = [0; 128];
     let n = input::read_numbers(line, &mut numbers);
-    case(line, &numbers[..n], room);
+    let next = case(shelf, line, &numbers[..n], room);
     output::words(b"\n");
+    next
 }
 
-// The first letter of a line tells the case; any other line is a remark.
-fn case(line: &[u8], numbers: &[u64], room: &mut [u8]) {
+// The first letter of a line tells the case, or that it is one of books; any other line is a remark.
+fn case(shelf: Shelf, line: &[u8], numbers: &[u64], room: &mut [u8]) -> Shelf {
     let letter = input::first(line);
+    if letter == b'B' {
+        return books::told(numbers);
+    }
     match letter {
         b'c' => shells::count(numbers),
         b'w' => shells::width(numbers),
@@ -54,8 +62,9 @@ fn case(line: &[u8], numbers: &[u64], room: &mut [u8]) {
         b't' => checks::check(numbers, room),
         b'r' => checks::place(numbers, room),
         b'n' => coefficients::nearest(numbers),
-        b'q' | b'S' => coefficients::run(letter, numbers, room),
-        b'T' | b'C' | b'R' | b'V' | b'A' => pages::run(letter, numbers, room),
+        b'q' | b'S' => coefficients::run(letter, shelf, numbers, room),
+        b'T' | b'C' | b'R' | b'V' | b'A' => pages::run(letter, shelf, numbers, room),
         _ => (),
     }
+    shelf
 }

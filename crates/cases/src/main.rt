@@ -1,7 +1,9 @@
 // Runs cases through the calls. Standard input, up to 65,536 bytes of it, has a case a line: a word that tells the
 // call, and numbers. Each line is written again, with what the call said behind it: 0 and its values, or a
-// refusal's number and what it names. The file `stdin` has the cases of docs/RULES.md, "Worked cases", and more;
-// the file `stdout` holds what they are to say: the values of the rules, and else what another program worked out.
+// refusal's number and what it names. A line `Books N B` tells the number of books and the book for the lines that
+// follow. The file `stdin` has the cases of docs/RULES.md, "Worked cases", and more; the file `stdout` holds what they
+// are to say: the values of the rules, and else what another program worked out.
+mod books;
 mod checks;
 mod coefficients;
 mod indices;

@@ -1,5 +1,7 @@
 // The cases of the calls of the page. A line has the mode and two numbers for the call, then the size and the bytes of
-// the page, the size and the bytes of what arrives, and a table. A buffer for a point is lent full of nines.
+// the page, the size and the bytes of what arrives, and a table. The books are those that were told before. A buffer
+// for a point is lent full of nines.
+use crate::books::Shelf;
 use crate::checks;
 use crate::coefficients::bytes;
 use crate::indices::coordinates;
@@ -19,26 +21,35 @@ use rules::Mode;
 use rules::Reason;
 
 // The letter tells the call.
-pub fn run(call: u8, numbers: &[u64], room: &mut [u8]) {
+pub fn run(call: u8, shelf: Shelf, numbers: &[u64], room: &mut [u8]) {
     let mut page = [0u8; 64];
     let size = number(numbers, 3) as usize;
     if size <= 64 {
-        with_page(call, numbers, &mut page[..size], room);
+        with_page(call, shelf, numbers, &mut page[..size], room);
     }
 }
 
-fn with_page(call: u8, numbers: &[u64], page: &mut [u8], room: &mut [u8]) {
+fn with_page(call: u8, shelf: Shelf, numbers: &[u64], page: &mut [u8], room: &mut [u8]) {
     copy(numbers, 4, page);
     let first = 4 + page.len();
     let mut arrived = [0u8; 64];
     let size = number(numbers, first) as usize;
     if size <= 64 {
-        with_arrived(call, numbers, first + 1, page, &mut arrived[..size], room);
+        with_arrived(
+            call,
+            shelf,
+            numbers,
+            first + 1,
+            page,
+            &mut arrived[..size],
+            room,
+        );
     }
 }
 
 fn with_arrived(
     call: u8,
+    shelf: Shelf,
     numbers: &[u64],
     first: usize,
     page: &mut [u8],
@@ -47,12 +58,21 @@ fn with_arrived(
 ) {
     if first < 128 {
         copy(numbers, first, arrived);
-        with_table(call, numbers, first + arrived.len(), page, arrived, room);
+        with_table(
+            call,
+            shelf,
+            numbers,
+            first + arrived.len(),
+            page,
+            arrived,
+            room,
+        );
     }
 }
 
 fn with_table(
     call: u8,
+    shelf: Shelf,
     numbers: &[u64],
     first: usize,
     page: &mut [u8],
@@ -62,13 +82,22 @@ fn with_table(
     let size = number(numbers, first) as usize;
     if first < 255 {
         if size <= room.len() {
-            made(call, numbers, first + 1, page, arrived, &mut room[..size]);
+            made(
+                call,
+                shelf,
+                numbers,
+                first + 1,
+                page,
+                arrived,
+                &mut room[..size],
+            );
         }
     }
 }
 
 fn made(
     call: u8,
+    shelf: Shelf,
     numbers: &[u64],
     first: usize,
     page: &mut [u8],
@@ -80,11 +109,11 @@ fn made(
     let a = number(numbers, 1) as usize;
     let b = number(numbers, 2) as usize;
     match call {
-        b'T' => take(table, page, arrived),
-        b'C' => collect(table, page, arrived),
-        b'R' => read(mode, table, page, a, b),
-        b'V' => value(mode, table, page, a, b),
-        _ => tally(mode, table, page),
+        b'T' => take(shelf, table, page, arrived),
+        b'C' => collect(shelf, table, page, arrived),
+        b'R' => read(mode, shelf, table, page, a, b),
+        b'V' => value(mode, shelf, table, page, a, b),
+        _ => tally(mode, shelf, table, page),
     }
 }
 
@@ -100,8 +129,8 @@ fn copy(numbers: &[u64], first: usize, out: &mut [u8])
 }
 
 // Take 0 0 0: what the call says, and the page then.
-fn take(table: &[u8], page: &mut [u8], arrived: &[u8]) {
-    match page::take(table, page, arrived) {
+fn take(shelf: Shelf, table: &[u8], page: &mut [u8], arrived: &[u8]) {
+    match page::take(table, shelf.books, page, arrived) {
         Arrival::Taken => output::said(0),
         Arrival::Refused(refusal) => output::refused(refusal),
     }
@@ -110,22 +139,22 @@ fn take(table: &[u8], page: &mut [u8], arrived: &[u8]) {
 }
 
 // Collect 0 0 0: the number of refused takes, and the page then.
-fn collect(table: &[u8], page: &mut [u8], arrived: &[u8]) {
-    output::said(page::collect(table, page, arrived) as u64);
+fn collect(shelf: Shelf, table: &[u8], page: &mut [u8], arrived: &[u8]) {
+    output::said(page::collect(table, shelf.books, page, arrived) as u64);
     output::colon();
     bytes(page);
 }
 
 // Read M P B: what the call says in mode M of place P with a buffer of B coordinates, and what these are then.
-fn read(mode: usize, table: &[u8], page: &[u8], place: usize, size: usize) {
+fn read(mode: usize, shelf: Shelf, table: &[u8], page: &[u8], place: usize, size: usize) {
     let mut out = [9; 20];
     if size <= 20 {
-        read_into(mode, table, page, place, &mut out[..size]);
+        read_into(mode, shelf, table, page, place, &mut out[..size]);
     }
 }
 
-fn read_into(mode: usize, table: &[u8], page: &[u8], place: usize, out: &mut [i32]) {
-    match page::read(Mode(mode), table, page, place, out) {
+fn read_into(mode: usize, shelf: Shelf, table: &[u8], page: &[u8], place: usize, out: &mut [i32]) {
+    match page::read(Mode(mode), table, shelf.books, shelf.book, page, place, out) {
         Reading::Answered(answer) => shown(answer),
         Reading::Refused(refusal) => output::refused(refusal),
     }
@@ -163,8 +192,16 @@ fn unreadable(reason: Reason) {
 }
 
 // Value M P I: what the call says in mode M of coordinate I of place P.
-fn value(mode: usize, table: &[u8], page: &[u8], place: usize, coordinate: usize) {
-    match page::coefficient(Mode(mode), table, page, place, coordinate) {
+fn value(mode: usize, shelf: Shelf, table: &[u8], page: &[u8], place: usize, coordinate: usize) {
+    match page::coefficient(
+        Mode(mode),
+        table,
+        shelf.books,
+        shelf.book,
+        page,
+        place,
+        coordinate,
+    ) {
         Valued::Answered(value) => carried(value),
         Valued::Refused(refusal) => output::refused(refusal),
     }
@@ -196,8 +233,8 @@ fn scaled(v: f32) {
 }
 
 // Answers M 0 0: the five counts of the tally in mode M.
-fn tally(mode: usize, table: &[u8], page: &[u8]) {
-    match page::tally(Mode(mode), table, page) {
+fn tally(mode: usize, shelf: Shelf, table: &[u8], page: &[u8]) {
+    match page::tally(Mode(mode), table, shelf.books, shelf.book, page) {
         Tallied::Counted(counts) => {
             output::answered(counts.sound as u64);
             output::next(counts.mended as u64);

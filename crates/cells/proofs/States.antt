@@ -6,7 +6,7 @@ use mathlib.Core.Path.{_≡_, refl, sym}
 use lib.Dec.{eqb}
 use borrow.Author.Tests.{lt-ltb, le-ltb, eq-eqb, ne-eqb}
 use Rattle.answers.specs.Checks.{pick}
-use Rattle.records.specs.Record.{placeIn, rowIn, sameBytes}
+use Rattle.records.specs.Record.{bookIn, placeIn, rowIn, sameBytes}
 use Rattle.layout.specs.Layout.{Cell}
 use Rattle.rules.specs.Judging.{judgeRecord, judge}
 use Rattle.rules.specs.Taking.{contestedCell, byState, badCell, takeCell}
@@ -18,22 +18,27 @@ by-state-else zero empty held contested a b = absurd (a refl)
 by-state-else (suc zero) empty held contested a b = absurd (b refl)
 by-state-else (suc (suc n)) empty held contested a b = refl
 
-module _ (p r : ℕ) (c : Cell) where
-  pub bad-above : 2 < c .state → true ≡ badCell p r c
+module _ (book p r : ℕ) (c : Cell) where
+  pub bad-above : 2 < c .state → true ≡ badCell book p r c
   unfolding badCell
   bad-above h = rw (lt-ltb 2 (c .state) h) refl
 
-  pub not-held : c .state ≤ 2 → (c .state ≡ 1 → ⊥) → false ≡ badCell p r c
+  pub not-held : c .state ≤ 2 → (c .state ≡ 1 → ⊥) → false ≡ badCell book p r c
   unfolding badCell
   not-held h e = rw (le-ltb 2 (c .state) h, ne-eqb (c .state) 1 e) refl
 
-  pub held-elsewhere : c .state ≡ 1 → (placeIn (c .bytes) ≡ p → ⊥) → true ≡ badCell p r c
+  pub of-another-book : c .state ≡ 1 → (bookIn (c .bytes) ≡ book → ⊥) → true ≡ badCell book p r c
   unfolding badCell
-  held-elsewhere e other = rw (e, ne-eqb (placeIn (c .bytes)) p other) refl
+  of-another-book e other = rw (e, ne-eqb (bookIn (c .bytes)) book other) refl
 
-  pub held-here : c .state ≡ 1 → placeIn (c .bytes) ≡ p → not (eqb (rowIn (c .bytes)) r) ≡ badCell p r c
+  pub held-elsewhere : c .state ≡ 1 → bookIn (c .bytes) ≡ book → (placeIn (c .bytes) ≡ p → ⊥) → true ≡ badCell book p r c
   unfolding badCell
-  held-here e here = rw (e, eq-eqb (placeIn (c .bytes)) p here) (sym (or-false (not (eqb (rowIn (c .bytes)) r))))
+  held-elsewhere e of-book other = rw (e, eq-eqb (bookIn (c .bytes)) book of-book, ne-eqb (placeIn (c .bytes)) p other) refl
+
+  pub held-here : c .state ≡ 1 → bookIn (c .bytes) ≡ book → placeIn (c .bytes) ≡ p → not (eqb (rowIn (c .bytes)) r) ≡ badCell book p r c
+  unfolding badCell
+  held-here e of-book here =
+      rw (e, eq-eqb (bookIn (c .bytes)) book of-book, eq-eqb (placeIn (c .bytes)) p here) (sym (or-false (not (eqb (rowIn (c .bytes)) r))))
 
 pub takes-else : (x : List ℕ) (c : Cell) → (c .state ≡ 0 → ⊥) → (c .state ≡ 1 → ⊥) → c ≡ takeCell x c
 unfolding takeCell

@@ -1,3 +1,4 @@
 // What the calls of the page do with one cell.
 pub mod judging;
 pub mod rule;
+pub mod spot;

@@ -6,14 +6,14 @@ use Rattle.rules.specs.Taking.{Received, arrive, after}
 use Rattle.rules.proofs.EitherOrder.{arrive-two}
 use Rattle.channel.specs.Demand3.{AnyOrder}
 
-module _ (t : List ℕ) where
-  by-steps : {xs ys : List (List ℕ)} (s : Received) → List·Permᴰ xs ys → after t s xs ≡ after t s ys
+module _ (t : List ℕ) (books : ℕ) where
+  by-steps : {xs ys : List (List ℕ)} (s : Received) → List·Permᴰ xs ys → after t books s xs ≡ after t books s ys
   unfolding after
   by-steps s List·Permᴰ·nil = refl
-  by-steps s (List·Permᴰ·cons {a} {b} {l₁} e rest) = ap (λ (x : List ℕ). after t (arrive t s x) l₁) e ∙ by-steps (arrive t s b) rest
+  by-steps s (List·Permᴰ·cons {a} {b} {l₁} e rest) = ap (λ (x : List ℕ). after t books (arrive t books s x) l₁) e ∙ by-steps (arrive t books s b) rest
   by-steps s (List·Permᴰ·swap {a} {b} {a′} {b′} {l} e f) =
-      ap (λ (u : Received). after t u l) (arrive-two t s a b ∙ ap₂ (λ (y x : List ℕ). arrive t (arrive t s y) x) f e)
+      ap (λ (u : Received). after t books u l) (arrive-two t books s a b ∙ ap₂ (λ (y x : List ℕ). arrive t books (arrive t books s y) x) f e)
   by-steps s (List·Permᴰ·trans first second) = by-steps s first ∙ by-steps s second
 
 pub any-order : AnyOrder
-any-order t s xs ys steps = by-steps t s steps
+any-order t books s xs ys steps = by-steps t books s steps

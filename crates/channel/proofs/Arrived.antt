@@ -5,6 +5,8 @@ use mathlib.Core.Path.{_≡_, sym, ap, ap₂, _∙_}
 use mathlib.Core.List.{List}
 use lib.IntN.{ℤ}
 use Rattle.enumeration.specs.Point.{OnShell}
+use Rattle.tables.proofs.PlaceChecks.{sharing-good}
+use Rattle.tables.specs.BookNumbers.{GoodBooks}
 use Rattle.tables.specs.Row.{radiiOf, radiusAt, enumerationOf, shellTotal}
 use Rattle.tables.specs.Table.{placesIn, Good, rowOf, rowFor, lengthFor}
 use Rattle.tables.proofs.Good.{good-place}
@@ -19,7 +21,10 @@ use Rattle.channel.proofs.Values.{exact-shown}
 use Rattle.channel.proofs.Reading.{grown-reads}
 use Rattle.channel.proofs.ThreeCases.{equal-cell}
 
-module _ (t : List ℕ) (good : Good t) (p : ℕ) (h : p < placesIn t) (number : ℕ) (in-row : number < radiiOf (rowFor t p)) (q : List ℤ) (on : OnShell (lengthFor t p) (radiusAt (rowFor t p) number) q) where
+module _ (t : List ℕ) (books : ℕ) (shared : GoodBooks t books) (book p : ℕ) (b : book < books) (h : p < placesIn t) (number : ℕ) (in-row : number < radiiOf (rowFor t p)) (q : List ℤ) (on : OnShell (lengthFor t p) (radiusAt (rowFor t p) number) q) where
+  good : Good t
+  good = sharing-good t books shared
+
   abbrev row : List ℕ
   row = rowFor t p
 
@@ -36,18 +41,19 @@ module _ (t : List ℕ) (good : Good t) (p : ℕ) (h : p < placesIn t) (number :
     named = row-lawful row .index-names (lengthFor t p) k q on;
   }
 
-  held-sound : (mode : ℕ) (y : List ℕ) → Holds y p (rowOf t p) number codeword → judge mode row (heldCell y) ≡ judged.Sound k codeword
+  held-sound : (mode : ℕ) (y : List ℕ) → Holds y book p (rowOf t p) number codeword → judge mode row (heldCell y) ≡ judged.Sound k codeword
   unfolding judge
   held-sound mode y holds =
       sym (record-judged mode row y (rw (holds .holds-radius-number) in-row))
       ∙ ap₂ (λ (n c : ℕ). judgeIn mode row (radiusAt row n) c) (holds .holds-radius-number) (holds .holds-codeword)
       ∙ sym (codeword-sound mode (indexNames row k) (shellTotal row k) k codeword (codeword-names .below) (codeword-names .named))
 
-  pub arrived-sound : (y : List ℕ) → Holds y p (rowOf t p) number codeword → (xs : List (List ℕ)) → OnlyCame t xs p y → SoundWith t (grown t xs) p q
+  pub arrived-sound : (y : List ℕ) → Holds y book p (rowOf t p) number codeword → (xs : List (List ℕ)) → OnlyCame t books xs book p y
+      → SoundWith t books book (grown t books xs) p q
   arrived-sound y holds xs all =
       let back = row-lawful row .point-of-index (lengthFor t p) k q on in
       record {
         reads = λ mode known.
-            grown-reads mode known t good xs p h (judged.Sound k codeword) q (ap (judge mode row) (equal-cell t good xs p h y all) ∙ held-sound mode y holds) back;
+            grown-reads mode known t books shared xs book p b h (judged.Sound k codeword) q (ap (judge mode row) (equal-cell t books shared xs book p b h y all) ∙ held-sound mode y holds) back;
         exact = λ bytes i. rw back at (exact-shown t p (judged.Sound k codeword) codeword-names bytes i);
       }

@@ -13,10 +13,10 @@ use Rattle.answers.proofs.InOrder.{Numbered, passes-says, passes-leaves}
 use Rattle.tables.specs.Row.{radiusAt}
 use Rattle.tables.specs.Table.{placesIn, rowFor}
 use Rattle.records.specs.Record.{radiusNumberIn, codewordIn}
-use Rattle.layout.specs.Layout.{cellAt}
 use Rattle.rules.specs.Modes.{plain, mending, noSuchMode}
 use Rattle.rules.specs.Judging.{judgeAt, answerNumber, mendedIndex, indexNames, totalNamed, reasonNumber, pointNamed, shown, AnswerIn}
 use Rattle.rules.specs.Reading.{lookChecks, told, carriedBy}
+use Rattle.rules.specs.Taking.{cellFor}
 use Rattle.rules.specs.Tallying.{answerAt, tallySays}
 use Rattle.rules.specs.TwoModes.{overflows, TwoModes}
 use Rattle.rules.specs.declared.Judged.{Judged}
@@ -52,56 +52,56 @@ is-sound (judged.Unreadable why) e = absurd (omega arith)
 told-answer : (j : Judged) {values : List ℕ} → told j ≡ 0 ∷ values → answerNumber j ≡ getD values 0 0
 told-answer j says = ap (λ (ns : List ℕ). getD ns 1 0) says
 
-module _ (t pg : List ℕ) (p : ℕ) where
+module _ (t pg : List ℕ) (book p : ℕ) where
   abbrev row : List ℕ
   row = rowFor t p
 
-  two : TwoModes row (cellAt pg p)
-  two = two-modes row (cellAt pg p)
+  two : TwoModes row (cellFor t pg book p)
+  two = two-modes row (cellFor t pg book p)
 
   -- no place of a page is mended in plain mode
-  pub plain-place : answerAt plain t pg p ≡ 1 → ⊥
-  plain-place = never-mended (judgeAt plain t pg p) (answer-in plain row (cellAt pg p))
+  pub plain-place : answerAt plain t pg book p ≡ 1 → ⊥
+  plain-place = never-mended (judgeAt plain t pg book p) (answer-in plain row (cellFor t pg book p))
 
   -- where no codeword overflows
-  pub judged-alike : (OverflowsAt t pg p → ⊥) → judgeAt plain t pg p ≡ judgeAt mending t pg p
-  judged-alike none = go (overflows row (cellAt pg p)) refl
+  pub judged-alike : (OverflowsAt t pg book p → ⊥) → judgeAt plain t pg book p ≡ judgeAt mending t pg book p
+  judged-alike none = go (overflows row (cellFor t pg book p)) refl
     where
-      go : (b : Bool) → overflows row (cellAt pg p) ≡ b → judgeAt plain t pg p ≡ judgeAt mending t pg p
+      go : (b : Bool) → overflows row (cellFor t pg book p) ≡ b → judgeAt plain t pg book p ≡ judgeAt mending t pg book p
       go true over = absurd (none over)
       go false same = two .agree same plain mending
 
   -- either reader: `rest` is what it checks behind the place, and `made` what it leaves where they pass
-  module _ (rest : List Check) (numbered : Numbered rest) where
+  module _ (books : ℕ) (rest : List Check) (numbered : Numbered rest) where
     abbrev saying : ℕ → List ℕ
-    saying mode = firstOf (lookChecks mode t pg p ++ rest) (told (judgeAt mode t pg p))
+    saying mode = firstOf (lookChecks mode t books book pg p ++ rest) (told (judgeAt mode t pg book p))
 
     abbrev leaving : {A : Type 0} → (Judged → A) → A → ℕ → A
-    leaving made held mode = leaves (lookChecks mode t pg p ++ rest) (made (judgeAt mode t pg p)) held
+    leaving made held mode = leaves (lookChecks mode t books book pg p ++ rest) (made (judgeAt mode t pg book p)) held
 
     pub none-mended : (more : List ℕ) → saying plain ≡ 0 ∷ 1 ∷ more → ⊥
     none-mended more says =
-        plain-place (told-answer (judgeAt plain t pg p) (reader-told plain t pg p rest numbered (1 ∷ more) says .1))
+        plain-place (told-answer (judgeAt plain t pg book p) (reader-told plain t books book pg p rest numbered (1 ∷ more) says .1))
 
     pub sound-too : {A : Type 0} (made : Judged → A) (held : A) (mode other : ℕ) → noSuchMode other ≡ false → saying mode ≡ soundSays
         → (saying other ≡ soundSays) × (leaving made held other ≡ leaving made held mode)
     sound-too made held mode other known says =
-        let reads = reader-told mode t pg p rest numbered (0 ∷ 0 ∷ []) says in
-        let sound = is-sound (judgeAt mode t pg p) (told-answer (judgeAt mode t pg p) (reads .1)) in
-        let same : judgeAt other t pg p ≡ judgeAt mode t pg p = two .sound-alike mode other (sound .0) (sound .1) (sound .2) ∙ sym (sound .2) in
-        let passes : Passes (lookChecks other t pg p ++ rest) = (known, reads .0 .1) in (
-          passes-says (told (judgeAt other t pg p)) (lookChecks other t pg p ++ rest) passes ∙ ap told same ∙ reads .1,
-          passes-leaves (made (judgeAt other t pg p)) held (lookChecks other t pg p ++ rest) passes
+        let reads = reader-told mode t books book pg p rest numbered (0 ∷ 0 ∷ []) says in
+        let sound = is-sound (judgeAt mode t pg book p) (told-answer (judgeAt mode t pg book p) (reads .1)) in
+        let same : judgeAt other t pg book p ≡ judgeAt mode t pg book p = two .sound-alike mode other (sound .0) (sound .1) (sound .2) ∙ sym (sound .2) in
+        let passes : Passes (lookChecks other t books book pg p ++ rest) = (known, reads .0 .1) in (
+          passes-says (told (judgeAt other t pg book p)) (lookChecks other t books book pg p ++ rest) passes ∙ ap told same ∙ reads .1,
+          passes-leaves (made (judgeAt other t pg book p)) held (lookChecks other t books book pg p ++ rest) passes
               ∙ ap made same
-              ∙ sym (passes-leaves (made (judgeAt mode t pg p)) held (lookChecks mode t pg p ++ rest) (reads .0)),
+              ∙ sym (passes-leaves (made (judgeAt mode t pg book p)) held (lookChecks mode t books book pg p ++ rest) (reads .0)),
         )
 
-    pub said-alike : {A : Type 0} (made : Judged → A) (held : A) → (OverflowsAt t pg p → ⊥)
+    pub said-alike : {A : Type 0} (made : Judged → A) (held : A) → (OverflowsAt t pg book p → ⊥)
         → (saying plain ≡ saying mending) × (leaving made held plain ≡ leaving made held mending)
     said-alike made held none =
         let same = judged-alike none in (
-          ap (λ (j : Judged). firstOf (lookChecks plain t pg p ++ rest) (told j)) same,
-          ap (λ (j : Judged). leaves (lookChecks plain t pg p ++ rest) (made j) held) same,
+          ap (λ (j : Judged). firstOf (lookChecks plain t books book pg p ++ rest) (told j)) same,
+          ap (λ (j : Judged). leaves (lookChecks plain t books book pg p ++ rest) (made j) held) same,
         )
 
     -- what mending mode says where a codeword overflows
@@ -111,29 +111,29 @@ module _ (t pg : List ℕ) (p : ℕ) where
     mended-or true k n d = inl refl
     mended-or false k n d = inr refl
 
-    pub said-apart : (values : List ℕ) → OverflowsAt t pg p → saying plain ≡ 0 ∷ values → SaysApart (saying plain) (saying mending) (distanceAt t pg p)
+    pub said-apart : (values : List ℕ) → OverflowsAt t pg book p → saying plain ≡ 0 ∷ values → SaysApart (saying plain) (saying mending) (distanceAt t pg book p)
     said-apart values over says =
-        let y = cellAt pg p .bytes in
+        let y = cellFor t pg book p .bytes in
         let k = radiusAt row (radiusNumberIn y) in
         let n = mendedIndex (totalNamed row y) (codewordIn y) in
-        let passes = reader-told plain t pg p rest numbered values says .0 in
-        let all : Passes (lookChecks mending t pg p ++ rest) = passes in
-        let is = passes-says (told (judgeAt mending t pg p)) (lookChecks mending t pg p ++ rest) all ∙ ap told (two .in-mending over) in
+        let passes = reader-told plain t books book pg p rest numbered values says .0 in
+        let all : Passes (lookChecks mending t books book pg p ++ rest) = passes in
+        let is = passes-says (told (judgeAt mending t pg book p)) (lookChecks mending t books book pg p ++ rest) all ∙ ap told (two .in-mending over) in
         record {
-          past = passes-says (told (judgeAt plain t pg p)) (lookChecks plain t pg p ++ rest) passes ∙ ap told (two .in-plain over);
-          mended = by is (mended-or (indexNames row k n) k n (distanceAt t pg p));
+          past = passes-says (told (judgeAt plain t pg book p)) (lookChecks plain t books book pg p ++ rest) passes ∙ ap told (two .in-plain over);
+          mended = by is (mended-or (indexNames row k n) k n (distanceAt t pg book p));
         }
       where
-        by : {said told-as : List ℕ} → said ≡ told-as → (told-as ≡ mendedSays (distanceAt t pg p)) ⊎ (told-as ≡ emptySays)
-            → (said ≡ mendedSays (distanceAt t pg p)) ⊎ (said ≡ emptySays)
+        by : {said told-as : List ℕ} → said ≡ told-as → (told-as ≡ mendedSays (distanceAt t pg book p)) ⊎ (told-as ≡ emptySays)
+            → (said ≡ mendedSays (distanceAt t pg book p)) ⊎ (said ≡ emptySays)
         by is (inl mended) = inl (is ∙ mended)
         by is (inr empty) = inr (is ∙ empty)
 
-plain-counts : (t pg counts : List ℕ) → tallySays plain t pg ≡ 0 ∷ counts → getD counts 1 0 ≡ 0
-plain-counts t pg counts says =
-    let counted = tallies plain t pg (ap (λ (ns : List ℕ). getD ns 0 0) says) in
+plain-counts : (t : List ℕ) (books book : ℕ) (pg counts : List ℕ) → tallySays plain t books book pg ≡ 0 ∷ counts → getD counts 1 0 ≡ 0
+plain-counts t books book pg counts says =
+    let counted = tallies plain t books book pg (ap (λ (ns : List ℕ). getD ns 0 0) says) in
     let same : counts ≡ counted .counts = ap (drop 1) (sym says ∙ counted .said) in
-    ap (λ (ns : List ℕ). getD ns 1 0) same ∙ counted .each 1 (omega arith) ∙ none-counted (answerAt plain t pg) 1 (placesIn t) (plain-place t pg)
+    ap (λ (ns : List ℕ). getD ns 1 0) same ∙ counted .each 1 (omega arith) ∙ none-counted (answerAt plain t pg book) 1 (placesIn t) (plain-place t pg book)
 
 -- the line of an answer that plain mode has: the first two letters of its word are not those of `mended`
 not-mended : (p : ℕ) (row : List ℕ) (j : Judged) → AnswerIn plain j → (d : ℕ) (q : List ℤ) → lineOf row p j ≡ placeText p 1 d q → ⊥
@@ -147,19 +147,19 @@ not-mended p row (judged.Unreadable why) is d q same =
 
 pub both-modes : BothModes
 both-modes = record {
-  read-plain = λ t pg p out. none-mended t pg p (readBehind t pg p out) (read-numbered t pg p out);
-  coefficient-plain = λ t pg p i. none-mended t pg p (valueBehind t pg p i) (value-numbered t pg p i);
+  read-plain = λ t books book pg p out. none-mended t pg book p books (readBehind t book pg p out) (read-numbered t book pg p out);
+  coefficient-plain = λ t books book pg p i. none-mended t pg book p books (valueBehind t book pg p i) (value-numbered t book pg p i);
   tally-plain = plain-counts;
-  line-plain = λ t pg p. not-mended p (rowFor t p) (judgeAt plain t pg p) (answer-in plain (rowFor t p) (cellAt pg p));
-  read-sound = λ mode other known t pg p out.
-      sound-too t pg p (readBehind t pg p out) (read-numbered t pg p out) (shown (rowFor t p)) out mode other known;
-  coefficient-sound = λ mode other known t pg p i.
-      sound-too t pg p (valueBehind t pg p i) (value-numbered t pg p i) (λ j. carriedBy (rowFor t p) j i) [] mode other known;
-  read-alike = λ t pg p out. said-alike t pg p (readBehind t pg p out) (read-numbered t pg p out) (shown (rowFor t p)) out;
-  coefficient-alike = λ t pg p i.
-      said-alike t pg p (valueBehind t pg p i) (value-numbered t pg p i) (λ j. carriedBy (rowFor t p) j i) [];
-  counted-alike = λ t pg p none. ap answerNumber (judged-alike t pg p none);
-  line-alike = λ t pg p none. ap (lineOf (rowFor t p) p) (judged-alike t pg p none);
-  read-apart = λ t pg p out. said-apart t pg p (readBehind t pg p out) (read-numbered t pg p out);
-  coefficient-apart = λ t pg p i. said-apart t pg p (valueBehind t pg p i) (value-numbered t pg p i);
+  line-plain = λ t pg book p. not-mended p (rowFor t p) (judgeAt plain t pg book p) (answer-in plain (rowFor t p) (cellFor t pg book p));
+  read-sound = λ mode other known t books book pg p out.
+      sound-too t pg book p books (readBehind t book pg p out) (read-numbered t book pg p out) (shown (rowFor t p)) out mode other known;
+  coefficient-sound = λ mode other known t books book pg p i.
+      sound-too t pg book p books (valueBehind t book pg p i) (value-numbered t book pg p i) (λ j. carriedBy (rowFor t p) j i) [] mode other known;
+  read-alike = λ t books book pg p out. said-alike t pg book p books (readBehind t book pg p out) (read-numbered t book pg p out) (shown (rowFor t p)) out;
+  coefficient-alike = λ t books book pg p i.
+      said-alike t pg book p books (valueBehind t book pg p i) (value-numbered t book pg p i) (λ j. carriedBy (rowFor t p) j i) [];
+  counted-alike = λ t pg book p none. ap answerNumber (judged-alike t pg book p none);
+  line-alike = λ t pg book p none. ap (lineOf (rowFor t p) p) (judged-alike t pg book p none);
+  read-apart = λ t books book pg p out. said-apart t pg book p books (readBehind t book pg p out) (read-numbered t book pg p out);
+  coefficient-apart = λ t books book pg p i. said-apart t pg book p books (valueBehind t book pg p i) (value-numbered t book pg p i);
 }

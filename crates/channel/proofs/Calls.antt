@@ -28,7 +28,7 @@ use Rattle.page.proofs.OneToOne.{take-one-to-one, read-one-to-one, coefficient-
 use Rattle.reporting.specs.Calls.{startingWith, noRoom, linesFit, linesChecks, linesText, linesSays, lineSays}
 use Rattle.report.specs.Meanings.{listedMeaning, linedMeaning}
 use Rattle.report.proofs.OneToOne.{listed-one-to-one, lined-one-to-one}
-use Rattle.channel.specs.Demand1.{withTable, withMode, pointConditions, quantizeConditions, sendConditions, takeConditions, readConditions, coefficientConditions, tallyConditions, linesConditions, Determined, Demand1}
+use Rattle.channel.specs.Demand1.{withTable, withBooks, withMode, pointConditions, quantizeConditions, sendConditions, takeConditions, readConditions, coefficientConditions, tallyConditions, linesConditions, Determined, Demand1}
 use Rattle.channel.proofs.Conditions.{alike, point-alike, check-alike, quantize-alike, send-alike, take-alike, read-alike, coefficient-alike, tally-alike, lines-alike}
 use Rattle.channel.proofs.Refusing.{refusing, unchanged}
 
@@ -36,12 +36,12 @@ determined : {A : Type 0} (meaningOf : A → List ℕ) (says : List ℕ) → ((r
 determined meaningOf says same r r′ a b = same r r′ (a ∙ sym b)
 
 -- what is told of a place, after 0
-answers : ℕ → List ℕ → List ℕ → ℕ → List ℕ
-answers mode t pg p = drop 1 (told (judgeAt mode t pg p))
+answers : ℕ → List ℕ → List ℕ → ℕ → ℕ → List ℕ
+answers mode t pg book p = drop 1 (told (judgeAt mode t pg book p))
 
 -- what is told of a block of lines, after 0
-written : ℕ → List ℕ → List ℕ → ℕ → ℕ → List ℕ
-written mode t pg p b = (p + linesFit t p b) ∷ length (linesText mode t pg p b) ∷ []
+written : ℕ → List ℕ → List ℕ → ℕ → ℕ → ℕ → List ℕ
+written mode t pg book p b = (p + linesFit t p b) ∷ length (linesText mode t pg book p b) ∷ []
 
 pub demand-1 : Demand1
 unfolding answers written
@@ -57,35 +57,35 @@ demand-1 = record {
   point-determined = λ v l k n out. determined pointMeaning (pointSays v l k n out) point-one-to-one;
   check = λ t. refusing (placesIn t ∷ []) (tableChecks t) (withTable t []) refl refl (check-alike t);
   check-determined = λ t. determined checkMeaning (checkSays t) check-one-to-one;
-  quantize = λ t p w out.
-      refusing [] (quantizeChecks t p w (length out)) (withTable t (quantizeConditions t p w (length out))) refl refl
-      (quantize-alike t p w (length out));
-  quantize-unchanged = λ t p w out. unchanged [] (quantizeChecks t p w (length out)) (recordFor t p w) out;
-  quantize-determined = λ t p w out. determined quantizeMeaning (quantizeSays t p w out) quantize-one-to-one;
-  send = λ t run out.
-      refusing [] (sendChecks t run (length out)) (withTable t (sendConditions t run (length out))) refl refl (send-alike t run (length out));
-  send-unchanged = λ t run out. unchanged [] (sendChecks t run (length out)) (recordsOf t run) out;
-  send-determined = λ t run out. determined sendMeaning (sendSays t run out) send-one-to-one;
-  take = λ t pg x. refusing [] (takeChecks t pg x) (withTable t (takeConditions t pg x)) refl refl (take-alike t pg x);
-  take-unchanged = λ t pg x. unchanged [] (takeChecks t pg x) (takeInto pg x) pg;
-  take-determined = λ t pg x. determined takeMeaning (takeSays t pg x) take-one-to-one;
-  read = λ mode t pg p out.
-      refusing (answers mode t pg p) (readChecks mode t pg p (length out)) (withMode mode t (readConditions t pg p (length out))) refl refl
-      (read-alike t mode pg p (length out));
-  read-unchanged = λ mode t pg p out. unchanged (answers mode t pg p) (readChecks mode t pg p (length out)) (pointAt mode t pg p) out;
-  read-determined = λ mode t pg p out. determined readMeaning (readSays mode t pg p out) read-one-to-one;
-  coefficient = λ mode t pg p i.
-      refusing (answers mode t pg p) (coefficientChecks mode t pg p i) (withMode mode t (coefficientConditions t pg p i)) refl refl (coefficient-alike t mode pg p i);
-  coefficient-none = λ mode t pg p i. unchanged (answers mode t pg p) (coefficientChecks mode t pg p i) (carriedBy (rowFor t p) (judgeAt mode t pg p) i) [];
-  coefficient-determined = λ mode t pg p i r r′ a b c d. coefficient-one-to-one r r′ (a ∙ sym c) (b ∙ sym d);
-  tally = λ mode t pg. refusing (tallyOf mode t pg) (tallyChecks mode t pg) (withMode mode t (tallyConditions t pg)) refl refl (tally-alike t mode pg);
-  tally-determined = λ mode t pg. determined tallyMeaning (tallySays mode t pg) tally-one-to-one;
-  lines = λ mode t pg p held.
-      refusing (written mode t pg p (length held)) (linesChecks mode t pg p (length held)) (withMode mode t (linesConditions t pg p (length held))) refl refl
-      (lines-alike t mode pg p (length held));
-  lines-unchanged = λ mode t pg p held.
-      unchanged (written mode t pg p (length held)) (linesChecks mode t pg p (length held)) (startingWith (linesText mode t pg p (length held)) held) held;
-  lines-determined = λ mode t pg p held. determined listedMeaning (linesSays mode t pg p held) listed-one-to-one;
+  quantize = λ t books book p w out.
+      refusing [] (quantizeChecks t books book p w (length out)) (withBooks t books (quantizeConditions t books book p w (length out))) refl refl
+      (quantize-alike t books book p w (length out));
+  quantize-unchanged = λ t books book p w out. unchanged [] (quantizeChecks t books book p w (length out)) (recordFor t book p w) out;
+  quantize-determined = λ t books book p w out. determined quantizeMeaning (quantizeSays t books book p w out) quantize-one-to-one;
+  send = λ t books book run out.
+      refusing [] (sendChecks t books book run (length out)) (withBooks t books (sendConditions t books book run (length out))) refl refl (send-alike t books book run (length out));
+  send-unchanged = λ t books book run out. unchanged [] (sendChecks t books book run (length out)) (recordsOf t book run) out;
+  send-determined = λ t books book run out. determined sendMeaning (sendSays t books book run out) send-one-to-one;
+  take = λ t books pg x. refusing [] (takeChecks t books pg x) (withBooks t books (takeConditions t books pg x)) refl refl (take-alike t books pg x);
+  take-unchanged = λ t books pg x. unchanged [] (takeChecks t books pg x) (takeInto t pg x) pg;
+  take-determined = λ t books pg x. determined takeMeaning (takeSays t books pg x) take-one-to-one;
+  read = λ mode t books book pg p out.
+      refusing (answers mode t pg book p) (readChecks mode t books book pg p (length out)) (withMode mode t books (readConditions t books book pg p (length out))) refl refl
+      (read-alike t books mode book pg p (length out));
+  read-unchanged = λ mode t books book pg p out. unchanged (answers mode t pg book p) (readChecks mode t books book pg p (length out)) (pointAt mode t pg book p) out;
+  read-determined = λ mode t books book pg p out. determined readMeaning (readSays mode t books book pg p out) read-one-to-one;
+  coefficient = λ mode t books book pg p i.
+      refusing (answers mode t pg book p) (coefficientChecks mode t books book pg p i) (withMode mode t books (coefficientConditions t books book pg p i)) refl refl (coefficient-alike t books mode book pg p i);
+  coefficient-none = λ mode t books book pg p i. unchanged (answers mode t pg book p) (coefficientChecks mode t books book pg p i) (carriedBy (rowFor t p) (judgeAt mode t pg book p) i) [];
+  coefficient-determined = λ mode t books book pg p i r r′ a b c d. coefficient-one-to-one r r′ (a ∙ sym c) (b ∙ sym d);
+  tally = λ mode t books book pg. refusing (tallyOf mode t pg book) (tallyChecks mode t books book pg) (withMode mode t books (tallyConditions t books book pg)) refl refl (tally-alike t books mode book pg);
+  tally-determined = λ mode t books book pg. determined tallyMeaning (tallySays mode t books book pg) tally-one-to-one;
+  lines = λ mode t books book pg p held.
+      refusing (written mode t pg book p (length held)) (linesChecks mode t books book pg p (length held)) (withMode mode t books (linesConditions t books book pg p (length held))) refl refl
+      (lines-alike t books mode book pg p (length held));
+  lines-unchanged = λ mode t books book pg p held.
+      unchanged (written mode t pg book p (length held)) (linesChecks mode t books book pg p (length held)) (startingWith (linesText mode t pg book p (length held)) held) held;
+  lines-determined = λ mode t books book pg p held. determined listedMeaning (linesSays mode t books book pg p held) listed-one-to-one;
   line = λ text held. refusing (length text ∷ []) (noRoom (length held) ∷ []) (noRoom (length held) ∷ []) refl refl (alike (noRoom (length held) ∷ []));
   line-unchanged = λ text held. unchanged (length text ∷ []) (noRoom (length held) ∷ []) (startingWith text held) held;
   line-determined = λ text held. determined linedMeaning (lineSays text held) lined-one-to-one;

@@ -12,8 +12,7 @@ use Rattle.answers.specs.Checks.{Check, anyOf, failsOf, firstOf, Passes}
 use Rattle.answers.proofs.InOrder.{Numbered}
 use Rattle.tables.specs.Table.{rowOf, rowFor}
 use Rattle.records.specs.Record.{placeIn, rowIn}
-use Rattle.layout.specs.Layout.{cellAt}
-use Rattle.rules.specs.Taking.{pageChecks, takeLeaves}
+use Rattle.rules.specs.Taking.{cellFor, pageChecks, takeLeaves}
 use Rattle.rules.specs.Judging.{judgeAt, answerNumber, reasonOf, pointNamed, AnswerIn}
 use Rattle.rules.specs.Reading.{lookChecks, told}
 use Rattle.rules.specs.declared.Judged.{Judged}
@@ -30,19 +29,19 @@ use Rattle.channel.proofs.Lines.{zeros, same-after}
 use Rattle.channel.proofs.Reading.{reader-told, readBehind, valueBehind, read-numbered, value-numbered}
 
 -- ---- taking
-unmoved : (t pg x : List ℕ) → (rowIn x ≡ rowOf t (placeIn x) → ⊥) → takeLeaves t pg x ≡ pg
-unmoved t pg x foreign = go (ready-or-shut t pg)
+unmoved : (t : List ℕ) (books : ℕ) (pg x : List ℕ) → (rowIn x ≡ rowOf t (placeIn x) → ⊥) → takeLeaves t books pg x ≡ pg
+unmoved t books pg x foreign = go (ready-or-shut t books pg)
   where
-    go : Passes (pageChecks t pg) ⊎ (anyOf (failsOf (pageChecks t pg)) ≡ true) → takeLeaves t pg x ≡ pg
-    go (inl ready) = none-leaves t pg ready x (λ claim. foreign (claim .of-row))
-    go (inr shut) = shut-leaves t pg shut x
+    go : Passes (pageChecks t books pg) ⊎ (anyOf (failsOf (pageChecks t books pg)) ≡ true) → takeLeaves t books pg x ≡ pg
+    go (inl ready) = none-leaves t books pg ready x (λ claim. foreign (claim .of-row))
+    go (inr shut) = shut-leaves t books pg shut x
 
 -- ---- reading
-module _ (mode : ℕ) (t pg : List ℕ) (p : ℕ) where
+module _ (mode : ℕ) (t : List ℕ) (books book : ℕ) (pg : List ℕ) (p : ℕ) where
   -- the reason that either reader gives is that of the place
-  by-reader : (rest : List Check) → Numbered rest → TellsNine (firstOf (lookChecks mode t pg p ++ rest) (told (judgeAt mode t pg p))) → ⊥
+  by-reader : (rest : List Check) → Numbered rest → TellsNine (firstOf (lookChecks mode t books book pg p ++ rest) (told (judgeAt mode t pg book p))) → ⊥
   by-reader rest numbered (answer, more, says) =
-      no-nine (judgeAt mode t pg p) (ap (λ (ns : List ℕ). getD ns 2 0) (reader-told mode t pg p rest numbered (answer ∷ 9 ∷ more) says .1))
+      no-nine (judgeAt mode t pg book p) (ap (λ (ns : List ℕ). getD ns 2 0) (reader-told mode t books book pg p rest numbered (answer ∷ 9 ∷ more) says .1))
 
 -- ---- the tally
 counted : (mode : ℕ) (j : Judged) → AnswerIn mode j → answerNumber j ≡ 4 → UnreadableFor mode (reasonOf j)
@@ -69,10 +68,10 @@ other-line p row (judged.Unreadable reason.EmptyShape) q same = let digit : _≡
 
 pub foreign-rows : ForeignRows
 foreign-rows = record {
-  own-row = λ t x p claiming. claim-is t x p claiming .of-row;
+  own-row = λ t books x book p claiming. claim-is t books x book p claiming .of-row;
   changes-nothing = unmoved;
-  read = λ mode t pg p out. by-reader mode t pg p (readBehind t pg p out) (read-numbered t pg p out);
-  coefficient = λ mode t pg p i. by-reader mode t pg p (valueBehind t pg p i) (value-numbered t pg p i);
-  tally = λ mode t pg p. counted mode (judgeAt mode t pg p) (answer-in mode (rowFor t p) (cellAt pg p));
-  line = λ mode t pg p. other-line p (rowFor t p) (judgeAt mode t pg p);
+  read = λ mode t books book pg p out. by-reader mode t books book pg p (readBehind t book pg p out) (read-numbered t book pg p out);
+  coefficient = λ mode t books book pg p i. by-reader mode t books book pg p (valueBehind t book pg p i) (value-numbered t book pg p i);
+  tally = λ mode t pg book p. counted mode (judgeAt mode t pg book p) (answer-in mode (rowFor t p) (cellFor t pg book p));
+  line = λ mode t pg book p. other-line p (rowFor t p) (judgeAt mode t pg book p);
 }

@@ -21,5 +21,7 @@ pub mod Numbering
 pub mod Records
 pub mod Answers
 pub mod BothModes
+pub mod Behind
+pub mod Apart
 pub mod Witness
 pub mod Demands

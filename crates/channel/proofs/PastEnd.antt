@@ -17,10 +17,10 @@ use Rattle.tables.specs.Row.{lengthOf, GoodRow}
 use Rattle.tables.specs.Table.{rowFor}
 use Rattle.tables.proofs.Good.{good-place}
 use Rattle.tables.proofs.GoodRow.{row-lawful}
-use Rattle.layout.specs.Layout.{cellAt}
 use Rattle.indexing.specs.Calls.{pastEnd, pointChecks, pointSays}
 use Rattle.rules.specs.Judging.{judgeAt, shown, pointNamed, Shows, TellsCodeword}
 use Rattle.rules.specs.Reading.{lookChecks, told, pointAt, readSays, readLeaves}
+use Rattle.rules.specs.Taking.{cellFor}
 use Rattle.rules.specs.declared.Judged.{Judged}
 use Rattle.rules.specs.declared.Judged.the-variants as judged
 use Rattle.rules.specs.declared.Reason.the-variants as reason
@@ -89,51 +89,51 @@ is-distant (judged.Unreadable (reason.PastEnd e)) same = inr (ap (λ (ns : List 
 is-distant (judged.Unreadable reason.EmptyShape) same = absurd (omega (arith, ap length same))
 
 -- the point of a mended place is of the radius k and has the index n
-received-as : (t pg : List ℕ) (p k n d : ℕ) → Shows (rowFor t p) (judged.Mended k n d)
-    → TellsCodeword (rowFor t p) (cellAt pg p .bytes) (judged.Mended k n d) → TellsReceived t pg p d (pointNamed (rowFor t p) k n)
-received-as t pg p k n d names tells =
+received-as : (t pg : List ℕ) (book p k n d : ℕ) → Shows (rowFor t p) (judged.Mended k n d)
+    → TellsCodeword (rowFor t p) (cellFor t pg book p .bytes) (judged.Mended k n d) → TellsReceived t pg book p d (pointNamed (rowFor t p) k n)
+received-as t pg book p k n d names tells =
     let row = rowFor t p in
     let on = row-lawful row .point-on-shell (lengthOf row) k n (names .below) (names .named) in
     let index = row-lawful row .index-of-point (lengthOf row) k n (names .below) (names .named) in
     rw (on .of-radius, index) tells
 
 -- either reader, in a mode: `rest` is what it checks behind the place
-module _ (mode : ℕ) (t pg : List ℕ) (p : ℕ) (rest : List Check) (numbered : Numbered rest) where
+module _ (mode : ℕ) (t : List ℕ) (books book : ℕ) (pg : List ℕ) (p : ℕ) (rest : List Check) (numbered : Numbered rest) where
   abbrev row : List ℕ
   row = rowFor t p
 
   abbrev judgement : Judged
-  judgement = judgeAt mode t pg p
+  judgement = judgeAt mode t pg book p
 
   abbrev saying : List ℕ
-  saying = firstOf (lookChecks mode t pg p ++ rest) (told judgement)
+  saying = firstOf (lookChecks mode t books book pg p ++ rest) (told judgement)
 
-  did : (values : List ℕ) → saying ≡ 0 ∷ values → Passes (lookChecks mode t pg p ++ rest) × (told judgement ≡ 0 ∷ values)
-  did = reader-told mode t pg p rest numbered
+  did : (values : List ℕ) → saying ≡ 0 ∷ values → Passes (lookChecks mode t books book pg p ++ rest) × (told judgement ≡ 0 ∷ values)
+  did = reader-told mode t books book pg p rest numbered
 
-  good : Passes (lookChecks mode t pg p ++ rest) → GoodRow row
+  good : Passes (lookChecks mode t books book pg p ++ rest) → GoodRow row
   good passes =
-      let place = look-place mode t pg p (passes-apart (lookChecks mode t pg p) rest passes .0) in
+      let place = look-place mode t books book pg p (passes-apart (lookChecks mode t books book pg p) rest passes .0) in
       good-place t p (place .0) (place .1) .1
 
-  tells : Passes (lookChecks mode t pg p ++ rest) → TellsCodeword row (cellAt pg p .bytes) judgement
-  tells passes = judge-tells mode row (row-lawful row) (good passes) (cellAt pg p)
+  tells : Passes (lookChecks mode t books book pg p ++ rest) → TellsCodeword row (cellFor t pg book p .bytes) judgement
+  tells passes = judge-tells mode row (row-lawful row) (good passes) (cellFor t pg book p)
 
   module _ {d : ℕ} (says : saying ≡ mendedSays d) where
     mended : (k : ℕ) × (n : ℕ) × (judgement ≡ judged.Mended k n d)
     mended = is-mended judgement (did (1 ∷ 0 ∷ d ∷ []) says .1)
 
-    said-received : TellsReceived t pg p d (pointAt mode t pg p)
+    said-received : TellsReceived t pg book p d (pointAt mode t pg book p)
     said-received =
         let passes = did (1 ∷ 0 ∷ d ∷ []) says .0 in
-        let shows = judge-shows mode row (row-lawful row) (good passes) (cellAt pg p) in
-        subst (λ (j : Judged). TellsReceived t pg p d (shown row j)) (sym (mended .2))
-        (received-as t pg p (mended .0) (mended .1) d (rw (mended .2) at shows) (rw (mended .2) at (tells passes)))
+        let shows = judge-shows mode row (row-lawful row) (good passes) (cellFor t pg book p) in
+        subst (λ (j : Judged). TellsReceived t pg book p d (shown row j)) (sym (mended .2))
+        (received-as t pg book p (mended .0) (mended .1) d (rw (mended .2) at shows) (rw (mended .2) at (tells passes)))
 
-    said-line : lineAt mode t pg p ≡ placeText p 1 d (pointAt mode t pg p)
+    said-line : lineAt mode t pg book p ≡ placeText p 1 d (pointAt mode t pg book p)
     said-line = subst (λ (j : Judged). lineOf row p j ≡ placeText p 1 d (shown row j)) (sym (mended .2)) refl
 
-  said-past : (more : List ℕ) → saying ≡ 0 ∷ 4 ∷ 6 ∷ more → (d : ℕ) × (more ≡ d ∷ []) × TellsPast t pg p d
+  said-past : (more : List ℕ) → saying ≡ 0 ∷ 4 ∷ 6 ∷ more → (d : ℕ) × (more ≡ d ∷ []) × TellsPast t pg book p d
   said-past more says =
       let reads = did (4 ∷ 6 ∷ more) says in
       let past = is-past judgement (reads .1) in
@@ -142,28 +142,28 @@ module _ (mode : ℕ) (t pg : List ℕ) (p : ℕ) (rest : List Check) (numbered 
   said-alone : (answer why d : ℕ) (more : List ℕ) → saying ≡ 0 ∷ answer ∷ why ∷ d ∷ more → (saying ≡ mendedSays d) ⊎ (saying ≡ pastSays d)
   said-alone answer why d more says =
       let reads = did (answer ∷ why ∷ d ∷ more) says in
-      let is = passes-says (told judgement) (lookChecks mode t pg p ++ rest) (reads .0) in
+      let is = passes-says (told judgement) (lookChecks mode t books book pg p ++ rest) (reads .0) in
       ⊎-elim (λ mended. inl (is ∙ mended)) (λ past. inr (is ∙ past)) (is-distant judgement (reads .1))
 
 -- what read leaves
-point-left : (mode : ℕ) (t pg : List ℕ) (p : ℕ) (out : List ℤ) (d : ℕ) → readSays mode t pg p out ≡ mendedSays d
-    → readLeaves mode t pg p out ≡ pointAt mode t pg p
-point-left mode t pg p out d says =
-    passes-leaves (pointAt mode t pg p) out (lookChecks mode t pg p ++ readBehind t pg p out)
-    (did mode t pg p (readBehind t pg p out) (read-numbered t pg p out) (1 ∷ 0 ∷ d ∷ []) says .0)
+point-left : (mode : ℕ) (t : List ℕ) (books book : ℕ) (pg : List ℕ) (p : ℕ) (out : List ℤ) (d : ℕ) → readSays mode t books book pg p out ≡ mendedSays d
+    → readLeaves mode t books book pg p out ≡ pointAt mode t pg book p
+point-left mode t books book pg p out d says =
+    passes-leaves (pointAt mode t pg book p) out (lookChecks mode t books book pg p ++ readBehind t book pg p out)
+    (did mode t books book pg p (readBehind t book pg p out) (read-numbered t book pg p out) (1 ∷ 0 ∷ d ∷ []) says .0)
 
 pub past-end : PastEnd
 past-end = record {
   refused = told-index;
-  read = λ mode t pg p out d says.
-      rw (point-left mode t pg p out d says)
-      (said-received mode t pg p (readBehind t pg p out) (read-numbered t pg p out) says);
-  coefficient = λ mode t pg p i d. said-received mode t pg p (valueBehind t pg p i) (value-numbered t pg p i);
-  read-line = λ mode t pg p out d says.
-      rw (point-left mode t pg p out d says)
-      (said-line mode t pg p (readBehind t pg p out) (read-numbered t pg p out) says);
-  read-past = λ mode t pg p out. said-past mode t pg p (readBehind t pg p out) (read-numbered t pg p out);
-  coefficient-past = λ mode t pg p i. said-past mode t pg p (valueBehind t pg p i) (value-numbered t pg p i);
-  read-alone = λ mode t pg p out. said-alone mode t pg p (readBehind t pg p out) (read-numbered t pg p out);
-  coefficient-alone = λ mode t pg p i. said-alone mode t pg p (valueBehind t pg p i) (value-numbered t pg p i);
+  read = λ mode t books book pg p out d says.
+      rw (point-left mode t books book pg p out d says)
+      (said-received mode t books book pg p (readBehind t book pg p out) (read-numbered t book pg p out) says);
+  coefficient = λ mode t books book pg p i d. said-received mode t books book pg p (valueBehind t book pg p i) (value-numbered t book pg p i);
+  read-line = λ mode t books book pg p out d says.
+      rw (point-left mode t books book pg p out d says)
+      (said-line mode t books book pg p (readBehind t book pg p out) (read-numbered t book pg p out) says);
+  read-past = λ mode t books book pg p out. said-past mode t books book pg p (readBehind t book pg p out) (read-numbered t book pg p out);
+  coefficient-past = λ mode t books book pg p i. said-past mode t books book pg p (valueBehind t book pg p i) (value-numbered t book pg p i);
+  read-alone = λ mode t books book pg p out. said-alone mode t books book pg p (readBehind t book pg p out) (read-numbered t book pg p out);
+  coefficient-alone = λ mode t books book pg p i. said-alone mode t books book pg p (valueBehind t book pg p i) (value-numbered t book pg p i);
 }

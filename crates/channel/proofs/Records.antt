@@ -17,26 +17,26 @@ use Rattle.quantizer.proofs.Written.{number-in, point-in, record-written}
 use Rattle.channel.specs.Demand2.{Quantizes, QuantizeWrites}
 use Rattle.channel.proofs.Accepted.{Accepted, accepts}
 
-module _ (t : List ℕ) (p : ℕ) (w : List Float) (out : List ℕ) (a : Accepted t p w out) where
+module _ (t : List ℕ) (books book p : ℕ) (w : List Float) (out : List ℕ) (a : Accepted t books book p w out) where
   row : GoodRow (rowFor t p)
   row = good-place t p (a .good) (a .inside) .1
 
   its-point : IsPointOf (radiusFor (rowFor t p) w) w (pointFor (rowFor t p) w)
   its-point = point-is (radiusFor (rowFor t p) w) w (some-total (rowFor t p) row (totalOf w))
 
-  written : Quantizes t p w (recordFor t p w)
+  written : Quantizes t book p w (recordFor t book p w)
   written = record {
-    fields = record-written t p w (a .good) (a .inside) (a .long);
+    fields = record-written t book p w (a .good) (a .few) (a .inside) (a .long);
     its-row = row-holds t p (a .inside);
     nearest = λ i h. whole-nearest (getD w i nan);
-    in-row = number-in t p w (a .good) (a .inside) (a .long);
+    in-row = number-in t book p w (a .good) (a .few) (a .inside) (a .long);
     least = least-miss (rowFor t p) row (totalOf w);
     first = smaller-on-tie (rowFor t p) row (totalOf w);
-    on-shell = point-in t p w (a .good) (a .inside) (a .long);
+    on-shell = point-in t book p w (a .good) (a .few) (a .inside) (a .long);
     point = its-point;
     only-point = λ q is. point-only (radiusFor (rowFor t p) w) w q (pointFor (rowFor t p) w) is its-point;
     zeros = λ i h none. zero-stays (radiusFor (rowFor t p) w) w i h (some-total (rowFor t p) row (totalOf w)) none;
   }
 
 pub quantize-writes : QuantizeWrites
-quantize-writes t p w out says = let a = accepts t p w out says in rw (a .leaves) (written t p w out a)
+quantize-writes t books book p w out says = let a = accepts t books book p w out says in rw (a .leaves) (written t books book p w out a)

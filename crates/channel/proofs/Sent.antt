@@ -31,13 +31,13 @@ use Rattle.channel.proofs.Arrived.{arrived-sound}
 use Rattle.channel.proofs.Numbering.{signs-lowest}
 
 -- a record of a place of the table claims it; where all that claim it are equal to it, that is what came
-all-of : (t : List ℕ) (p number codeword : ℕ) → p < placesIn t → Holds (recordOf p (rowOf t p) number codeword) p (rowOf t p) number codeword
-    → (xs : List (List ℕ)) → List·Memᴰ (recordOf p (rowOf t p) number codeword) xs → AllEqual t xs p (recordOf p (rowOf t p) number codeword)
-    → OnlyCame t xs p (recordOf p (rowOf t p) number codeword)
+all-of : (t : List ℕ) (books book p number codeword : ℕ) → book < books → p < placesIn t → Holds (recordOf book p (rowOf t p) number codeword) book p (rowOf t p) number codeword
+    → (xs : List (List ℕ)) → List·Memᴰ (recordOf book p (rowOf t p) number codeword) xs → AllEqual t books xs book p (recordOf book p (rowOf t p) number codeword)
+    → OnlyCame t books xs book p (recordOf book p (rowOf t p) number codeword)
 unfolding recordOf
-all-of t p number codeword inside holds xs among equal = record {
+all-of t books book p number codeword in-books inside holds xs among equal = record {
   among = among;
-  claiming = is-claim t (recordOf p (rowOf t p) number codeword) p (record { eight = refl; named = holds .holds-place; of-row = holds .holds-row; inside = inside });
+  claiming = is-claim t books (recordOf book p (rowOf t p) number codeword) book p (record { eight = refl; of-book = holds .holds-book; named = holds .holds-place; of-row = holds .holds-row; in-books = in-books; inside = inside });
   equal = equal;
 }
 
@@ -56,7 +56,7 @@ turned F field l k q on codeword same =
     )
 
 -- a record with the radius number that quantize chose, and any codeword
-module _ (t : List ℕ) (p : ℕ) (w : List Float) (lent : List ℕ) (a : Accepted t p w lent) where
+module _ (t : List ℕ) (books book p : ℕ) (w : List Float) (lent : List ℕ) (a : Accepted t books book p w lent) where
   abbrev l : ℕ
   l = lengthFor t p
 
@@ -67,29 +67,29 @@ module _ (t : List ℕ) (p : ℕ) (w : List Float) (lent : List ℕ) (a : Accept
   point = pointFor (rowFor t p) w
 
   abbrev made : ℕ → List ℕ
-  made codeword = recordOf p (rowOf t p) (radiusNumberFor (rowFor t p) w) codeword
+  made codeword = recordOf book p (rowOf t p) (radiusNumberFor (rowFor t p) w) codeword
 
   -- it came, and nothing else did for its place
   abbrev Came : ℕ → List (List ℕ) → Type 0
-  Came codeword xs = List·Memᴰ (made codeword) xs × AllEqual t xs p (made codeword)
+  Came codeword xs = List·Memᴰ (made codeword) xs × AllEqual t books xs book p (made codeword)
 
   -- so it is sound, if the codeword is the index of a point of the shell
-  came-sound : (q : List ℤ) → OnShell l k q → (xs : List (List ℕ)) → Came (enumerationOf (rowFor t p) .index q) xs → SoundWith t (grown t xs) p q
+  came-sound : (q : List ℤ) → OnShell l k q → (xs : List (List ℕ)) → Came (enumerationOf (rowFor t p) .index q) xs → SoundWith t books book (grown t books xs) p q
   came-sound q on xs came =
       let number = radiusNumberFor (rowFor t p) w in
       let codeword = enumerationOf (rowFor t p) .index q in
-      let holds = fields-held t p w (a .good) (a .inside) (a .long) codeword (row-lawful (rowFor t p) .index-below l k q on) in
-      arrived-sound t (a .good) p (a .inside) number (number-in t p w (a .good) (a .inside) (a .long)) q on (made codeword) holds xs
-      (all-of t p number codeword (a .inside) holds xs (came .0) (came .1))
+      let holds = fields-held t book p w (a .good) (a .few) (a .inside) (a .long) codeword (row-lawful (rowFor t p) .index-below l k q on) in
+      arrived-sound t books (a .shared) book p (a .in-books) (a .inside) number (number-in t book p w (a .good) (a .few) (a .inside) (a .long)) q on (made codeword) holds xs
+      (all-of t books book p number codeword (a .in-books) (a .inside) holds xs (came .0) (came .1))
 
   on-shell : OnShell l k point
-  on-shell = point-in t p w (a .good) (a .inside) (a .long)
+  on-shell = point-in t book p w (a .good) (a .few) (a .inside) (a .long)
 
   abbrev e : Enumeration
   e = enumerationFor t p
 
   turned-sound : (f : Field) → e ≡ byField (sizeOf f) → (codeword : ℕ) → e .index point / 2 ^ nonzerosIn point ≡ codeword / 2 ^ nonzerosIn point → (xs : List (List ℕ))
-      → Came codeword xs → SoundWith t (grown t xs) p (flipped (e .index point) codeword point)
+      → Came codeword xs → SoundWith t books book (grown t books xs) p (flipped (e .index point) codeword point)
   turned-sound f lowest codeword same xs came =
       let other = flipped (productIndex (sizeOf f) point) codeword point in
       let is = turned (sizeOf f) (is-field f) l k point on-shell codeword (rw lowest at same) in
@@ -97,19 +97,19 @@ module _ (t : List ℕ) (p : ℕ) (w : List Float) (lent : List ℕ) (a : Accept
       rw lowest (came-sound other (is .0) xs (rw index came))
 
 pub shown-as-sent : ShownAsSent
-shown-as-sent t p w r q sent xs among equal =
-    let a = accepts t p w (sent .lent) (sent .accepted) in
-    let is : r ≡ recordFor t p w = sym (sent .written) ∙ a .leaves in
+shown-as-sent t books book p w r q sent xs among equal =
+    let a = accepts t books book p w (sent .lent) (sent .accepted) in
+    let is : r ≡ recordFor t book p w = sym (sent .written) ∙ a .leaves in
     rw (sent .point) at
-    (came-sound t p w (sent .lent) a (pointFor (rowFor t p) w) (on-shell t p w (sent .lent) a) xs
+    (came-sound t books book p w (sent .lent) a (pointFor (rowFor t p) w) (on-shell t books book p w (sent .lent) a) xs
     (subst (λ (u : List ℕ). List·Memᴰ u xs) is among, λ x m f. equal x m f ∙ is))
 
 pub only-signs-change : OnlySignsChange
 unfolding recordOf
-only-signs-change t p w r q sent lowest codeword same xs among equal =
-    let a = accepts t p w (sent .lent) (sent .accepted) in
-    let is : withCodeword r codeword ≡ withCodeword (recordFor t p w) codeword = ap (λ (u : List ℕ). withCodeword u codeword) (sym (sent .written) ∙ a .leaves) in
+only-signs-change t books book p w r q sent lowest codeword same xs among equal =
+    let a = accepts t books book p w (sent .lent) (sent .accepted) in
+    let is : withCodeword r codeword ≡ withCodeword (recordFor t book p w) codeword = ap (λ (u : List ℕ). withCodeword u codeword) (sym (sent .written) ∙ a .leaves) in
     let by = signs-lowest (rowFor t p) lowest in
     rw (sent .point) at
-    (turned-sound t p w (sent .lent) a (by .0) (by .1) codeword (rw (sent .point) same) xs
+    (turned-sound t books book p w (sent .lent) a (by .0) (by .1) codeword (rw (sent .point) same) xs
     (subst (λ (u : List ℕ). List·Memᴰ u xs) is among, λ x m f. equal x m f ∙ is))

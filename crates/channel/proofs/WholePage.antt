@@ -6,9 +6,9 @@ use Rattle.channel.proofs.AnyOrder.{any-order}
 use Rattle.channel.proofs.Sent.{shown-as-sent, only-signs-change}
 
 pub whole-page : WholePage
-whole-page t good w r q sent xs = record {
-  any-order = λ ys steps. ap (λ (s : Received). s .page) (any-order t (empty t) xs ys steps);
-  unchanged = λ p h among equal. shown-as-sent t p (w p) (r p) (q p) (sent p h) xs among equal;
-  signs-changed = λ p h lowest codeword same among equal.
-      only-signs-change t p (w p) (r p) (q p) (sent p h) lowest codeword same xs among equal;
+whole-page t books good w r q sent xs = record {
+  any-order = λ ys steps. ap (λ (s : Received). s .page) (any-order t books (empty t books) xs ys steps);
+  unchanged = λ book p k h among equal. shown-as-sent t books book p (w book p) (r book p) (q book p) (sent book p k h) xs among equal;
+  signs-changed = λ book p k h lowest codeword same among equal.
+      only-signs-change t books book p (w book p) (r book p) (q book p) (sent book p k h) lowest codeword same xs among equal;
 }

@@ -36,21 +36,21 @@ use Rattle.channel.specs.Demand3.{SoundWith, Bytes, PageSent}
 use Rattle.channel.specs.Witness.{sent, turned, arrivals, Witness}
 use Rattle.channel.proofs.Sent.{shown-as-sent, only-signs-change}
 
--- a test of a whole list: what claims p has the bytes of r
+-- a test of a whole list: what claims p in the one book has the bytes of r
 onlyClaims : List ℕ → ℕ → List ℕ → List (List ℕ) → Bool
 onlyClaims t p r [] = true
-onlyClaims t p r (x ∷ xs) = (not (claims t x p) || sameBytes x r) && onlyClaims t p r xs
+onlyClaims t p r (x ∷ xs) = (not (claims t 1 x 0 p) || sameBytes x r) && onlyClaims t p r xs
 
-each-equal : (t : List ℕ) (p : ℕ) (r : List ℕ) (xs : List (List ℕ)) → onlyClaims t p r xs ≡ true → AllEqual t xs p r
+each-equal : (t : List ℕ) (p : ℕ) (r : List ℕ) (xs : List (List ℕ)) → onlyClaims t p r xs ≡ true → AllEqual t 1 xs 0 p r
 unfolding onlyClaims
 each-equal t p r [] e x m f = absurd (List·Memᴰ·not-nil m)
-each-equal t p r (y ∷ ys) e x m f = ⊎-elim (λ same. same ∙ here (claims t y p) (sameBytes y r) refl refl e (sym (ap (λ (u : List ℕ). claims t u p) same) ∙ f)) (λ n. each-equal t p r ys (rest (not (claims t y p) || sameBytes y r) e) x n f) (List·Memᴰ·cases-cons m)
+each-equal t p r (y ∷ ys) e x m f = ⊎-elim (λ same. same ∙ here (claims t 1 y 0 p) (sameBytes y r) refl refl e (sym (ap (λ (u : List ℕ). claims t 1 u 0 p) same) ∙ f)) (λ n. each-equal t p r ys (rest (not (claims t 1 y 0 p) || sameBytes y r) e) x n f) (List·Memᴰ·cases-cons m)
   where
     rest : (b : Bool) → b && onlyClaims t p r ys ≡ true → onlyClaims t p r ys ≡ true
     rest true h = h
     rest false h = absurd (false≢true h)
 
-    here : (a b : Bool) → claims t y p ≡ a → sameBytes y r ≡ b → (not a || b) && onlyClaims t p r ys ≡ true → claims t y p ≡ true → y ≡ r
+    here : (a b : Bool) → claims t 1 y 0 p ≡ a → sameBytes y r ≡ b → (not a || b) && onlyClaims t p r ys ≡ true → claims t 1 y 0 p ≡ true → y ≡ r
     here a true ea eb h g = bytes-same y r eb
     here true false ea eb h g = absurd (false≢true h)
     here false false ea eb h g = absurd (false≢true (sym ea ∙ g))
@@ -60,11 +60,12 @@ each-byte n h zero = h
 each-byte n h (suc i) = lit< tt
 
 -- both places of the table
-each-sent : PageSent wholeCase (λ p. vector) (λ p. of p 0 1 5) (λ p. sent)
+each-sent : PageSent wholeCase 1 (λ b p. vector) (λ b p. of p 0 1 5) (λ b p. sent)
 unfolding toBits lt N binomial D S B sumAfter rangeSize rangeStart fieldTotal patternIndex shapeOffset shapeIndex signIndex indexFrom productIndex nearestWhole ofPattern unitsOf unusableCoefficient negative byteOf selectedBy enumerationOf badRadius badRadii badRow rowAt placesBefore rowsBefore firstBest largest give shared recordOf chosenRadiusNumber
-each-sent zero h = record { lent = replicate 8 9; accepted = refl; written = refl; point = refl }
-each-sent (suc zero) h = record { lent = replicate 8 9; accepted = refl; written = refl; point = refl }
-each-sent (suc (suc p)) h = absurd (omega arith)
+each-sent zero zero k h = record { lent = replicate 8 9; accepted = refl; written = refl; point = refl }
+each-sent zero (suc zero) k h = record { lent = replicate 8 9; accepted = refl; written = refl; point = refl }
+each-sent zero (suc (suc p)) k h = absurd (omega arith)
+each-sent (suc b) p k h = absurd (omega arith)
 
 pub witness : Witness
 unfolding onlyClaims claims toBits round lt N binomial D S B sumAfter rangeSize rangeStart fieldTotal distance width bitsFrom patternIndex shapeOffset shapeIndex signIndex indexFrom productIndex rangeFrom rangeOf patternOf firstAmong leftAmong shapeOf signsOf pointFrom pointWithin productPoint namesWithin productNames over256 nearestWhole ofPattern unitsOf unusableCoefficient negative byteOf selectedBy enumerationOf badRadius badRadii badRow rowAt placesBefore rowsBefore firstBest largest give shared recordOf chosenRadiusNumber stateAt recordAt setCell badCell takeCell arrive after judgeCodeword judgeRecord judge
@@ -98,11 +99,11 @@ witness = record {
   page-sent = each-sent;
 }
 
-pub sound-here : SoundWith wholeCase (grown wholeCase (arrivals first)) 0 sent
-sound-here = shown-as-sent wholeCase 0 vector first sent (witness .is-sent) (arrivals first) (witness .is-read .among) (witness .is-read .equal)
+pub sound-here : SoundWith wholeCase 1 0 (grown wholeCase 1 (arrivals first)) 0 sent
+sound-here = shown-as-sent wholeCase 1 0 0 vector first sent (witness .is-sent) (arrivals first) (witness .is-read .among) (witness .is-read .equal)
 
-pub turned-here : SoundWith wholeCase (grown wholeCase (arrivals other)) 0 turned
+pub turned-here : SoundWith wholeCase 1 0 (grown wholeCase 1 (arrivals other)) 0 turned
 turned-here =
     rw (witness .is-turned) at
-    (only-signs-change wholeCase 0 vector first sent (witness .is-sent) (witness .signs-are-lowest) 7 (witness .low-bits) (arrivals other) (witness .turned-read .among)
+    (only-signs-change wholeCase 1 0 0 vector first sent (witness .is-sent) (witness .signs-are-lowest) 7 (witness .low-bits) (arrivals other) (witness .turned-read .among)
     (witness .turned-read .equal))

@@ -18,17 +18,17 @@ use Rattle.indexing.specs.Calls.{selectedChecks, pastEndCheck, emptyCheck, inde
 use Rattle.points.specs.Meanings.{indexMeaning}
 use Rattle.indexing.specs.Calls.{pointChecks, pointSays, pointLeaves}
 use Rattle.points.specs.Meanings.{pointMeaning}
+use Rattle.tables.specs.BookNumbers.{booksCheck, bookCheck}
 use Rattle.tables.specs.Table.{placesIn, tableChecks, checkSays, placeCheck, rowOf, rowFor, lengthFor}
 use Rattle.pairing.specs.Meanings.{checkMeaning}
-use Rattle.records.specs.Record.{recordCheck, placeIn}
+use Rattle.records.specs.Record.{recordCheck, bookIn, placeIn}
 use Rattle.coefficients.specs.Coefficients.{usableChecks}
 use Rattle.quantizer.specs.Calls.{quantizeChecks, quantizeLeaves, quantizeMeaning, quantizeSays}
 use Rattle.runs.specs.Run.{coordinatesIn}
 use Rattle.runs.specs.Sending.{runChecks, recordsLength, sendChecks, sendSays, sendLeaves}
 use Rattle.sending.specs.Meanings.{sendMeaning}
-use Rattle.layout.specs.Layout.{cellAt}
 use Rattle.rules.specs.Modes.{modeCheck}
-use Rattle.rules.specs.Taking.{pageCheck, foreignCheck, cellCheck, ownCellCheck, cellCheckAt, takeChecks, takeSays, takeLeaves}
+use Rattle.rules.specs.Taking.{cellFor, pageCheck, foreignCheck, cellCheck, ownCellCheck, cellCheckAt, takeChecks, takeSays, takeLeaves}
 use Rattle.rules.specs.Reading.{readChecks, readSays, readLeaves, coordinateCheck, coefficientChecks, coefficientSays, coefficientCarries}
 use Rattle.rules.specs.Tallying.{tallyChecks, tallySays}
 use Rattle.page.specs.Meanings.{takeMeaning, readMeaning, coefficientMeaning, coefficientValues, tallyMeaning}
@@ -54,58 +54,72 @@ pointConditions v l k n b =
     ∷ []
 
 -- the conditions of a call whose checks begin with those of its table, 7, and what each call checks after them: 4
--- is given for any buffer of a wrong length, 11 for any coefficient, and 12 for any cell
+-- is given for any buffer of a wrong length, 8 for the book as for the place, 11 for any coefficient, and 12 for any
+-- cell
 abbrev pub withTable : List ℕ → List Check → List Check
 withTable t conditions = condition 7 (tableChecks t) ∷ conditions
 
--- the conditions of a call that is given a mode before its table
-abbrev pub withMode : ℕ → List ℕ → List Check → List Check
-withMode mode t conditions = modeCheck mode ∷ withTable t conditions
+-- the conditions of a call that is given a number of books before its table
+abbrev pub withBooks : List ℕ → ℕ → List Check → List Check
+withBooks t books conditions = booksCheck books ∷ withTable t conditions
 
-abbrev pub quantizeConditions : List ℕ → ℕ → List Float → ℕ → List Check
-quantizeConditions t p w b =
-    placeCheck t p
+-- and a mode before that
+abbrev pub withMode : ℕ → List ℕ → ℕ → List Check → List Check
+withMode mode t books conditions = modeCheck mode ∷ withBooks t books conditions
+
+-- 8, for a book and a place
+abbrev pub noPlace : List ℕ → ℕ → ℕ → ℕ → Check
+noPlace t books book p = condition 8 (bookCheck books book ∷ placeCheck t p ∷ [])
+
+abbrev pub quantizeConditions : List ℕ → ℕ → ℕ → ℕ → List Float → ℕ → List Check
+quantizeConditions t books book p w b =
+    noPlace t books book p
     ∷ condition 4 (lengthCheck (length w) (lengthFor t p) ∷ recordCheck b ∷ [])
     ∷ condition 11 (usableChecks w)
     ∷ []
 
-abbrev pub sendConditions : List ℕ → List Float → ℕ → List Check
-sendConditions t run b =
-    condition 4 (lengthCheck (length run) (coordinatesIn t) ∷ lengthCheck b (recordsLength t) ∷ [])
+abbrev pub sendConditions : List ℕ → ℕ → ℕ → List Float → ℕ → List Check
+sendConditions t books book run b =
+    bookCheck books book
+    ∷ condition 4 (lengthCheck (length run) (coordinatesIn t) ∷ lengthCheck b (recordsLength t) ∷ [])
     ∷ condition 11 (runChecks t run)
     ∷ []
 
-abbrev pub takeConditions : List ℕ → List ℕ → List ℕ → List Check
-takeConditions t pg x =
-    condition 4 (pageCheck t pg ∷ recordCheck (length x) ∷ [])
-    ∷ placeCheck t (placeIn x)
+abbrev pub takeConditions : List ℕ → ℕ → List ℕ → List ℕ → List Check
+takeConditions t books pg x =
+    condition 4 (pageCheck t books pg ∷ recordCheck (length x) ∷ [])
+    ∷ noPlace t books (bookIn x) (placeIn x)
     ∷ foreignCheck t x
     ∷ ownCellCheck t pg x
     ∷ []
 
-abbrev pub readConditions : List ℕ → List ℕ → ℕ → ℕ → List Check
-readConditions t pg p b =
-    placeCheck t p
-    ∷ condition 4 (pageCheck t pg ∷ lengthCheck b (lengthFor t p) ∷ [])
-    ∷ cellCheck p (rowOf t p) (cellAt pg p)
+abbrev pub readConditions : List ℕ → ℕ → ℕ → List ℕ → ℕ → ℕ → List Check
+readConditions t books book pg p b =
+    noPlace t books book p
+    ∷ condition 4 (pageCheck t books pg ∷ lengthCheck b (lengthFor t p) ∷ [])
+    ∷ cellCheck book p (rowOf t p) (cellFor t pg book p)
     ∷ []
 
-abbrev pub coefficientConditions : List ℕ → List ℕ → ℕ → ℕ → List Check
-coefficientConditions t pg p i =
-    placeCheck t p
-    ∷ pageCheck t pg
+abbrev pub coefficientConditions : List ℕ → ℕ → ℕ → List ℕ → ℕ → ℕ → List Check
+coefficientConditions t books book pg p i =
+    noPlace t books book p
+    ∷ pageCheck t books pg
     ∷ coordinateCheck (rowFor t p) i
-    ∷ cellCheck p (rowOf t p) (cellAt pg p)
+    ∷ cellCheck book p (rowOf t p) (cellFor t pg book p)
     ∷ []
 
-abbrev pub tallyConditions : List ℕ → List ℕ → List Check
-tallyConditions t pg = pageCheck t pg ∷ condition 12 (eachFrom (cellCheckAt t pg) 0 (placesIn t)) ∷ []
+abbrev pub tallyConditions : List ℕ → ℕ → ℕ → List ℕ → List Check
+tallyConditions t books book pg =
+    bookCheck books book
+    ∷ pageCheck t books pg
+    ∷ condition 12 (eachFrom (cellCheckAt t pg book) 0 (placesIn t))
+    ∷ []
 
-abbrev pub linesConditions : List ℕ → List ℕ → ℕ → ℕ → List Check
-linesConditions t pg p b =
-    placeCheck t p
-    ∷ condition 4 (pageCheck t pg ∷ noRoom b ∷ [])
-    ∷ condition 12 (eachFrom (cellCheckAt t pg) p (linesFit t p b))
+abbrev pub linesConditions : List ℕ → ℕ → ℕ → List ℕ → ℕ → ℕ → List Check
+linesConditions t books book pg p b =
+    noPlace t books book p
+    ∷ condition 4 (pageCheck t books pg ∷ noRoom b ∷ [])
+    ∷ condition 12 (eachFrom (cellCheckAt t pg book) p (linesFit t p b))
     ∷ []
 
 -- A call's refusals: `order` is the call's line in docs/RULES.md, "Order of checks", `conditions` says when each
@@ -144,47 +158,56 @@ pub record Demand1 : Type 0 where
   -- the check of a table: 7
   pub check : (t : List ℕ) → Refusing (7 ∷ []) (withTable t []) (tableChecks t) (checkSays t)
   pub check-determined : (t : List ℕ) → Determined checkMeaning (checkSays t)
-  -- Quantize: 7, 8, 4, 11
-  pub quantize : (t : List ℕ) (p : ℕ) (w : List Float) (out : List ℕ)
-      → Refusing (7 ∷ 8 ∷ 4 ∷ 11 ∷ []) (withTable t (quantizeConditions t p w (length out))) (quantizeChecks t p w (length out)) (quantizeSays t p w out)
-  pub quantize-unchanged : (t : List ℕ) (p : ℕ) (w : List Float) (out : List ℕ)
-      → Unchanged (quantizeSays t p w out) (quantizeLeaves t p w out) out
-  pub quantize-determined : (t : List ℕ) (p : ℕ) (w : List Float) (out : List ℕ)
-      → Determined quantizeMeaning (quantizeSays t p w out)
-  -- Send: 7, 4, 11
-  pub send : (t : List ℕ) (run : List Float) (out : List ℕ)
-      → Refusing (7 ∷ 4 ∷ 11 ∷ []) (withTable t (sendConditions t run (length out))) (sendChecks t run (length out)) (sendSays t run out)
-  pub send-unchanged : (t : List ℕ) (run : List Float) (out : List ℕ) → Unchanged (sendSays t run out) (sendLeaves t run out) out
-  pub send-determined : (t : List ℕ) (run : List Float) (out : List ℕ) → Determined sendMeaning (sendSays t run out)
-  -- Take: 7, 4, 8, 9, 12
-  pub take : (t pg x : List ℕ) → Refusing (7 ∷ 4 ∷ 8 ∷ 9 ∷ 12 ∷ []) (withTable t (takeConditions t pg x)) (takeChecks t pg x) (takeSays t pg x)
-  pub take-unchanged : (t pg x : List ℕ) → Unchanged (takeSays t pg x) (takeLeaves t pg x) pg
-  pub take-determined : (t pg x : List ℕ) → Determined takeMeaning (takeSays t pg x)
-  -- Read a place: 16, 7, 8, 4, 12
-  pub read : (mode : ℕ) (t pg : List ℕ) (p : ℕ) (out : List ℤ)
-      → Refusing (16 ∷ 7 ∷ 8 ∷ 4 ∷ 12 ∷ []) (withMode mode t (readConditions t pg p (length out))) (readChecks mode t pg p (length out))
-      (readSays mode t pg p out)
-  pub read-unchanged : (mode : ℕ) (t pg : List ℕ) (p : ℕ) (out : List ℤ) → Unchanged (readSays mode t pg p out) (readLeaves mode t pg p out) out
-  pub read-determined : (mode : ℕ) (t pg : List ℕ) (p : ℕ) (out : List ℤ) → Determined readMeaning (readSays mode t pg p out)
-  -- One coefficient: 16, 7, 8, 4, 13, 12; a refusal carries no value
-  pub coefficient : (mode : ℕ) (t pg : List ℕ) (p i : ℕ)
-      → Refusing (16 ∷ 7 ∷ 8 ∷ 4 ∷ 13 ∷ 12 ∷ []) (withMode mode t (coefficientConditions t pg p i)) (coefficientChecks mode t pg p i)
-      (coefficientSays mode t pg p i)
-  pub coefficient-none : (mode : ℕ) (t pg : List ℕ) (p i : ℕ) → Unchanged (coefficientSays mode t pg p i) (coefficientCarries mode t pg p i) []
-  pub coefficient-determined : (mode : ℕ) (t pg : List ℕ) (p i : ℕ) (r r′ : Valued)
-      → coefficientMeaning r ≡ coefficientSays mode t pg p i → coefficientValues r ≡ coefficientCarries mode t pg p i
-      → coefficientMeaning r′ ≡ coefficientSays mode t pg p i → coefficientValues r′ ≡ coefficientCarries mode t pg p i → r ≡ r′
-  -- Tally: 16, 7, 4, 12
-  pub tally : (mode : ℕ) (t pg : List ℕ)
-      → Refusing (16 ∷ 7 ∷ 4 ∷ 12 ∷ []) (withMode mode t (tallyConditions t pg)) (tallyChecks mode t pg) (tallySays mode t pg)
-  pub tally-determined : (mode : ℕ) (t pg : List ℕ) → Determined tallyMeaning (tallySays mode t pg)
-  -- The calls of the listing: lines as reading a place, 16, 7, 8, 4, 12; one line of a known text, 4
-  pub lines : (mode : ℕ) (t pg : List ℕ) (p : ℕ) (held : List ℕ)
-      → Refusing (16 ∷ 7 ∷ 8 ∷ 4 ∷ 12 ∷ []) (withMode mode t (linesConditions t pg p (length held))) (linesChecks mode t pg p (length held))
-      (linesSays mode t pg p held)
-  pub lines-unchanged : (mode : ℕ) (t pg : List ℕ) (p : ℕ) (held : List ℕ)
-      → Unchanged (linesSays mode t pg p held) (linesLeaves mode t pg p held) held
-  pub lines-determined : (mode : ℕ) (t pg : List ℕ) (p : ℕ) (held : List ℕ) → Determined listedMeaning (linesSays mode t pg p held)
+  -- Quantize: 17, 7, 8, 4, 11
+  pub quantize : (t : List ℕ) (books book p : ℕ) (w : List Float) (out : List ℕ)
+      → Refusing (17 ∷ 7 ∷ 8 ∷ 4 ∷ 11 ∷ []) (withBooks t books (quantizeConditions t books book p w (length out)))
+      (quantizeChecks t books book p w (length out)) (quantizeSays t books book p w out)
+  pub quantize-unchanged : (t : List ℕ) (books book p : ℕ) (w : List Float) (out : List ℕ)
+      → Unchanged (quantizeSays t books book p w out) (quantizeLeaves t books book p w out) out
+  pub quantize-determined : (t : List ℕ) (books book p : ℕ) (w : List Float) (out : List ℕ)
+      → Determined quantizeMeaning (quantizeSays t books book p w out)
+  -- Send: 17, 7, 8, 4, 11
+  pub send : (t : List ℕ) (books book : ℕ) (run : List Float) (out : List ℕ)
+      → Refusing (17 ∷ 7 ∷ 8 ∷ 4 ∷ 11 ∷ []) (withBooks t books (sendConditions t books book run (length out)))
+      (sendChecks t books book run (length out)) (sendSays t books book run out)
+  pub send-unchanged : (t : List ℕ) (books book : ℕ) (run : List Float) (out : List ℕ)
+      → Unchanged (sendSays t books book run out) (sendLeaves t books book run out) out
+  pub send-determined : (t : List ℕ) (books book : ℕ) (run : List Float) (out : List ℕ) → Determined sendMeaning (sendSays t books book run out)
+  -- Take: 17, 7, 4, 8, 9, 12
+  pub take : (t : List ℕ) (books : ℕ) (pg x : List ℕ)
+      → Refusing (17 ∷ 7 ∷ 4 ∷ 8 ∷ 9 ∷ 12 ∷ []) (withBooks t books (takeConditions t books pg x)) (takeChecks t books pg x) (takeSays t books pg x)
+  pub take-unchanged : (t : List ℕ) (books : ℕ) (pg x : List ℕ) → Unchanged (takeSays t books pg x) (takeLeaves t books pg x) pg
+  pub take-determined : (t : List ℕ) (books : ℕ) (pg x : List ℕ) → Determined takeMeaning (takeSays t books pg x)
+  -- Read a place: 16, 17, 7, 8, 4, 12
+  pub read : (mode : ℕ) (t : List ℕ) (books book : ℕ) (pg : List ℕ) (p : ℕ) (out : List ℤ)
+      → Refusing (16 ∷ 17 ∷ 7 ∷ 8 ∷ 4 ∷ 12 ∷ []) (withMode mode t books (readConditions t books book pg p (length out)))
+      (readChecks mode t books book pg p (length out)) (readSays mode t books book pg p out)
+  pub read-unchanged : (mode : ℕ) (t : List ℕ) (books book : ℕ) (pg : List ℕ) (p : ℕ) (out : List ℤ)
+      → Unchanged (readSays mode t books book pg p out) (readLeaves mode t books book pg p out) out
+  pub read-determined : (mode : ℕ) (t : List ℕ) (books book : ℕ) (pg : List ℕ) (p : ℕ) (out : List ℤ)
+      → Determined readMeaning (readSays mode t books book pg p out)
+  -- One coefficient: 16, 17, 7, 8, 4, 13, 12; a refusal carries no value
+  pub coefficient : (mode : ℕ) (t : List ℕ) (books book : ℕ) (pg : List ℕ) (p i : ℕ)
+      → Refusing (16 ∷ 17 ∷ 7 ∷ 8 ∷ 4 ∷ 13 ∷ 12 ∷ []) (withMode mode t books (coefficientConditions t books book pg p i))
+      (coefficientChecks mode t books book pg p i) (coefficientSays mode t books book pg p i)
+  pub coefficient-none : (mode : ℕ) (t : List ℕ) (books book : ℕ) (pg : List ℕ) (p i : ℕ)
+      → Unchanged (coefficientSays mode t books book pg p i) (coefficientCarries mode t books book pg p i) []
+  pub coefficient-determined : (mode : ℕ) (t : List ℕ) (books book : ℕ) (pg : List ℕ) (p i : ℕ) (r r′ : Valued)
+      → coefficientMeaning r ≡ coefficientSays mode t books book pg p i → coefficientValues r ≡ coefficientCarries mode t books book pg p i
+      → coefficientMeaning r′ ≡ coefficientSays mode t books book pg p i → coefficientValues r′ ≡ coefficientCarries mode t books book pg p i → r ≡ r′
+  -- Tally: 16, 17, 7, 8, 4, 12
+  pub tally : (mode : ℕ) (t : List ℕ) (books book : ℕ) (pg : List ℕ)
+      → Refusing (16 ∷ 17 ∷ 7 ∷ 8 ∷ 4 ∷ 12 ∷ []) (withMode mode t books (tallyConditions t books book pg)) (tallyChecks mode t books book pg)
+      (tallySays mode t books book pg)
+  pub tally-determined : (mode : ℕ) (t : List ℕ) (books book : ℕ) (pg : List ℕ) → Determined tallyMeaning (tallySays mode t books book pg)
+  -- The calls of the listing: lines as reading a place, 16, 17, 7, 8, 4, 12; one line of a known text, 4
+  pub lines : (mode : ℕ) (t : List ℕ) (books book : ℕ) (pg : List ℕ) (p : ℕ) (held : List ℕ)
+      → Refusing (16 ∷ 17 ∷ 7 ∷ 8 ∷ 4 ∷ 12 ∷ []) (withMode mode t books (linesConditions t books book pg p (length held)))
+      (linesChecks mode t books book pg p (length held)) (linesSays mode t books book pg p held)
+  pub lines-unchanged : (mode : ℕ) (t : List ℕ) (books book : ℕ) (pg : List ℕ) (p : ℕ) (held : List ℕ)
+      → Unchanged (linesSays mode t books book pg p held) (linesLeaves mode t books book pg p held) held
+  pub lines-determined : (mode : ℕ) (t : List ℕ) (books book : ℕ) (pg : List ℕ) (p : ℕ) (held : List ℕ)
+      → Determined listedMeaning (linesSays mode t books book pg p held)
   pub line : (text held : List ℕ) → Refusing (4 ∷ []) (noRoom (length held) ∷ []) (noRoom (length held) ∷ []) (lineSays text held)
   pub line-unchanged : (text held : List ℕ) → Unchanged (lineSays text held) (lineLeaves text held) held
   pub line-determined : (text held : List ℕ) → Determined linedMeaning (lineSays text held)

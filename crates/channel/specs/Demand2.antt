@@ -1,5 +1,6 @@
--- Demand 2 (docs/RULES.md, "Demands"), indices, records and answers. What is said of indices is said of the enumeration
--- of each selector v, and what is said of a page, of the enumeration of each place's row and in each mode.
+-- Demand 2 (docs/RULES.md, "Demands"), indices, records and answers. What is said of indices is said of the
+-- enumeration of each selector v, and what is said of a page, of the enumeration of each place's row, in each mode and
+-- in each book.
 use Prim.Native.Nat.{ℕ, suc, _*_, _^_, _≤_, _<_, _∣_}
 use mathlib.Core.Path.{_≡_}
 use mathlib.Core.List.{List, [], _∷_, _++_}
@@ -100,10 +101,10 @@ pub record CallsUndo (v l k : ℕ) : Type 0 where
       → pointSays v l k n out ≡ 15 ∷ []
 
 -- ---- records
--- What quantize writes for w at place p, if it accepts them: the record r.
-pub record Quantizes (t : List ℕ) (p : ℕ) (w : List Float) (r : List ℕ) : Type 0 where
-  -- place, row, radius number and the index of the point by the row's own enumeration; and the row is the place's
-  pub fields : Holds r p (rowOf t p) (radiusNumberFor (rowFor t p) w) (enumerationFor t p .index (pointFor (rowFor t p) w))
+-- What quantize writes for w at place p of a book, if it accepts them: the record r.
+pub record Quantizes (t : List ℕ) (book p : ℕ) (w : List Float) (r : List ℕ) : Type 0 where
+  -- book, place, row, radius number and the index of the point by the row's own enumeration; and the row is the place's
+  pub fields : Holds r book p (rowOf t p) (radiusNumberFor (rowFor t p) w) (enumerationFor t p .index (pointFor (rowFor t p) w))
   pub its-row : InRow t p (rowOf t p)
   -- the whole number of a coefficient is the n with the least |256 X - n 2^149|, the even one of two
   pub nearest : (i : ℕ) → i < length w → IsNearest (256 * unitsOf (getD w i nan)) (2 ^ 149) (nearestWhole (getD w i nan))
@@ -122,21 +123,23 @@ pub record Quantizes (t : List ℕ) (p : ℕ) (w : List Float) (r : List ℕ) : 
   pub zeros : (i : ℕ) → i < length w → nearestWhole (getD w i nan) ≡ 0 → getD (pointFor (rowFor t p) w) i (pos 0) ≡ pos 0
 
 abbrev pub QuantizeWrites : Type 0
-QuantizeWrites = (t : List ℕ) (p : ℕ) (w : List Float) (out : List ℕ) → quantizeSays t p w out ≡ 0 ∷ [] → Quantizes t p w (quantizeLeaves t p w out)
+QuantizeWrites = (t : List ℕ) (books book p : ℕ) (w : List Float) (out : List ℕ) → quantizeSays t books book p w out ≡ 0 ∷ []
+    → Quantizes t book p w (quantizeLeaves t books book p w out)
 
 -- ---- answers
--- What a place of a good table shows, on any page, by the one definition that reader, coefficient and tally go by.
-pub record Answers (mode : ℕ) (t pg : List ℕ) (p : ℕ) : Type 0 where
+-- What a place of a good table shows in any book, on any page, by the one definition that reader, coefficient and
+-- tally go by.
+pub record Answers (mode : ℕ) (t pg : List ℕ) (book p : ℕ) : Type 0 where
   -- a point that is shown, mended or not, has an index below the total of a usable shell
-  pub shows : Shows (rowFor t p) (judgeAt mode t pg p)
+  pub shows : Shows (rowFor t p) (judgeAt mode t pg book p)
   -- a value v is exactly coordinate x step / 256, and zero is positive zero
-  pub exact : Bytes t → (i : ℕ) → IsOver256 (scaled t p (shown (rowFor t p) (judgeAt mode t pg p)) i) (valueAt mode t pg p i)
+  pub exact : Bytes t → (i : ℕ) → IsOver256 (scaled t p (shown (rowFor t p) (judgeAt mode t pg book p)) i) (valueAt mode t pg book p i)
 
--- tally j is the number of places whose answer is j, and the five sum to the number of places
-pub record Tallies (mode : ℕ) (t pg : List ℕ) : Type 0 where
+-- tally j is the number of places of the book whose answer is j, and the five sum to the number of places
+pub record Tallies (mode : ℕ) (t : List ℕ) (books book : ℕ) (pg : List ℕ) : Type 0 where
   pub counts : List ℕ
-  pub said : tallySays mode t pg ≡ 0 ∷ counts
-  pub each : (j : ℕ) → j < 5 → getD counts j 0 ≡ countOf (λ (p : ℕ). answerNumber (judgeAt mode t pg p)) j (placesIn t)
+  pub said : tallySays mode t books book pg ≡ 0 ∷ counts
+  pub each : (j : ℕ) → j < 5 → getD counts j 0 ≡ countOf (λ (p : ℕ). answerNumber (judgeAt mode t pg book p)) j (placesIn t)
   pub sum : sumOf counts ≡ placesIn t
 
 -- ---- all of demand 2
@@ -147,5 +150,6 @@ pub record Demand2 : Type 0 where
   pub bits : BitOfCoordinate
   pub calls-undo : (v l k : ℕ) → selectsNone v ≡ false → IsUsable l k (selectedBy v .total l k) → CallsUndo v l k
   pub quantize-writes : QuantizeWrites
-  pub answers : (mode : ℕ) (t : List ℕ) → Good t → (pg : List ℕ) (p : ℕ) → p < placesIn t → Answers mode t pg p
-  pub tallies : (mode : ℕ) (t pg : List ℕ) → numberSaid (tallySays mode t pg) ≡ 0 → Tallies mode t pg
+  pub answers : (mode : ℕ) (t : List ℕ) → Good t → (pg : List ℕ) (book p : ℕ) → p < placesIn t → Answers mode t pg book p
+  pub tallies : (mode : ℕ) (t : List ℕ) (books book : ℕ) (pg : List ℕ) → numberSaid (tallySays mode t books book pg) ≡ 0
+      → Tallies mode t books book pg

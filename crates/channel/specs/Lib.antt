@@ -6,3 +6,4 @@ pub mod Witness
 pub mod ForeignRows
 pub mod PastEnd
 pub mod BothModes
+pub mod Apart

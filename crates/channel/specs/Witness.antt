@@ -35,18 +35,18 @@ arrivals r = second ∷ take 7 r ∷ r ∷ of 2 0 1 5 ∷ r ∷ []
 -- r is among them, all that claim place 0 are equal to r, and reading it gives the point q, sound in both modes
 pub record Read (r : List ℕ) (q : List ℤ) : Type 0 where
   pub among : List·Memᴰ r (arrivals r)
-  pub equal : AllEqual wholeCase (arrivals r) 0 r
-  pub says : readSays mending wholeCase (grown wholeCase (arrivals r)) 0 zeros ≡ 0 ∷ 0 ∷ 0 ∷ []
-  pub says-plain : readSays plain wholeCase (grown wholeCase (arrivals r)) 0 zeros ≡ 0 ∷ 0 ∷ 0 ∷ []
-  pub leaves : readLeaves mending wholeCase (grown wholeCase (arrivals r)) 0 zeros ≡ q
-  pub leaves-plain : readLeaves plain wholeCase (grown wholeCase (arrivals r)) 0 zeros ≡ q
+  pub equal : AllEqual wholeCase 1 (arrivals r) 0 0 r
+  pub says : readSays mending wholeCase 1 0 (grown wholeCase 1 (arrivals r)) 0 zeros ≡ 0 ∷ 0 ∷ 0 ∷ []
+  pub says-plain : readSays plain wholeCase 1 0 (grown wholeCase 1 (arrivals r)) 0 zeros ≡ 0 ∷ 0 ∷ 0 ∷ []
+  pub leaves : readLeaves mending wholeCase 1 0 (grown wholeCase 1 (arrivals r)) 0 zeros ≡ q
+  pub leaves-plain : readLeaves plain wholeCase 1 0 (grown wholeCase 1 (arrivals r)) 0 zeros ≡ q
 
 pub record Witness : Type 0 where
   -- c: the record of the whole case is the one that quantize leaves, and (1, 0, -1) is read, the last coefficient
   -- as -1.0
-  pub is-sent : Sent wholeCase 0 vector first sent
+  pub is-sent : Sent wholeCase 1 0 0 vector first sent
   pub is-read : Read first sent
-  pub its-value : map (toBits binary32) (coefficientCarries plain wholeCase (grown wholeCase (arrivals first)) 0 2) ≡ 3212836864 ∷ []
+  pub its-value : map (toBits binary32) (coefficientCarries plain wholeCase 1 0 (grown wholeCase 1 (arrivals first)) 0 2) ≡ 3212836864 ∷ []
   -- d: with bit 1 of its codeword changed, which makes 7 of 5, (-1, 0, -1) is read
   pub low-bits : enumerationFor wholeCase 0 .index sent / 2 ^ nonzerosIn sent ≡ 7 / 2 ^ nonzerosIn sent
   pub signs-are-lowest : signsLowest (selectorOf (rowFor wholeCase 0)) ≡ true
@@ -54,10 +54,10 @@ pub record Witness : Type 0 where
   pub is-turned : flipped (enumerationFor wholeCase 0 .index sent) 7 sent ≡ turned
   pub turned-read : Read other turned
   -- e: a sound place meets the premise in both modes, and a mended one in its own
-  pub shows-sound : ShowsPoint (readSays mending wholeCase page 0 zeros)
-  pub shows-plain : ShowsPoint (readSays plain wholeCase page 0 zeros)
-  pub shows-mended : ShowsPoint (readSays mending wholeCase page 1 zeros)
+  pub shows-sound : ShowsPoint (readSays mending wholeCase 1 0 page 0 zeros)
+  pub shows-plain : ShowsPoint (readSays plain wholeCase 1 0 page 0 zeros)
+  pub shows-mended : ShowsPoint (readSays mending wholeCase 1 0 page 1 zeros)
   -- a table may hold every byte
   pub any-byte : (n : ℕ) → n < 256 → Bytes (n ∷ [])
   -- the demand of a whole page: the same vector, sent for every place of the table
-  pub page-sent : PageSent wholeCase (λ p. vector) (λ p. of p 0 1 5) (λ p. sent)
+  pub page-sent : PageSent wholeCase 1 (λ b p. vector) (λ b p. of p 0 1 5) (λ b p. sent)

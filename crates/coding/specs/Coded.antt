@@ -5,6 +5,8 @@ use mathlib.Core.List.{List}
 use lib.Ieee.{Float}
 use lib.IntN.{ℤ}
 use Rattle.tables.specs.Row.{enumerationOf}
+use Rattle.records.specs.Record.{recordOf}
+use Rattle.records.specs.declared.inner.Named.{Named}
 use Rattle.coefficients.specs.Points.{totalOf, pointOf}
 use Rattle.coefficients.specs.Radius.{chosenRadiusNumber, chosenRadius}
 
@@ -20,3 +22,7 @@ pointFor row xs = pointOf (radiusFor row xs) xs
 
 abbrev pub codewordFor : List ℕ → List Float → ℕ
 codewordFor row xs = enumerationOf row .index (pointFor row xs)
+
+-- the record, which names a book, a place in it and the number of the row
+abbrev pub recordNamed : Named → List ℕ → List Float → List ℕ
+recordNamed named row xs = recordOf (named .book) (named .place) (named .row) (radiusNumberFor row xs) (codewordFor row xs)

@@ -6,6 +6,7 @@ use coefficients::inner::radius::choose;
 use numbering::inner::Numbering;
 use numbering::inner::index;
 use numbering::inner::of_row;
+use records::inner::Named;
 use records::inner::write;
 use shares::inner::share;
 use shares::inner::sum;
@@ -14,11 +15,11 @@ ghost use Prim.Native.Nat.{_≤_};
 ghost use lib.ListN.{length};
 ghost use Rattle.tables.specs.Row.{lengthOf, IsRow};
 ghost use Rattle.numbering.specs.Numbered.{indexIn};
-ghost use Rattle.records.specs.Record.{recordOf};
+ghost use Rattle.records.specs.Naming.{InField};
 ghost use Rattle.coefficients.specs.Coefficients.{AllUsable};
 ghost use Rattle.coefficients.specs.Points.{magnitudesOf, totalOf, pointOf};
 ghost use Rattle.coding.specs.Bounds.{Accepted, Codable};
-ghost use Rattle.coding.specs.Coded.{radiusNumberFor, codewordFor};
+ghost use Rattle.coding.specs.Coded.{radiusNumberFor, codewordFor, recordNamed};
 
 // The radius number, and the codeword.
 struct Coded {
@@ -82,12 +83,10 @@ fn code(
     Coded { number, codeword }
 }
 
-// The record of a vector at a place of the row of this number.
-pub fn write_record(row: &[u8], number: usize, place: usize, coefficients: &[f32], out: &mut [u8])
-    requires { ⌜ Accepted (now row) (now coefficients) (now out) ⌝ }
-    ensures { λ _. ⌜ now (out .exit)
-        ≡ recordOf place number (radiusNumberFor (now (row .entry)) (now (coefficients .entry)))
-        (codewordFor (now (row .entry)) (now (coefficients .entry))) ⌝ }
+// The record of a vector in this row, with the book, the place and the row's number that it is to name.
+pub fn write_record(row: &[u8], named: Named, coefficients: &[f32], out: &mut [u8])
+    requires { ⌜ Accepted (now row) (now coefficients) (now out) × InField named ⌝ }
+    ensures { λ _. ⌜ now (out .exit) ≡ recordNamed named (now (row .entry)) (now (coefficients .entry)) ⌝ }
 {
     let n = coefficients.len();
     let mut magnitudes = [0u32; 16];
@@ -100,11 +99,5 @@ pub fn write_record(row: &[u8], number: usize, place: usize, coefficients: &[f32
         &mut rests[..n],
         &mut point[..n],
     );
-    write(
-        place as u64,
-        number as u64,
-        coded.number as u64,
-        coded.codeword,
-        out,
-    );
+    write(named, coded.number as u64, coded.codeword, out);
 }

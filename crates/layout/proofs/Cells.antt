@@ -20,7 +20,7 @@ pub same-cell : {c d : Cell} → c .state ≡ d .state → c .bytes ≡ d .bytes
 same-cell {c} {d} s b = ap₂ (λ (state : ℕ) (bytes : List ℕ). record { state = state; bytes = bytes }) s b
 
 -- byte i of the record of place p
-record-byte : (pg : List ℕ) (p i : ℕ) → i < 8 → getD (recordAt pg p) i 0 ≡ getD pg (recordOffset p + i) 0
+pub record-byte : (pg : List ℕ) (p i : ℕ) → i < 8 → getD (recordAt pg p) i 0 ≡ getD pg (recordOffset p + i) 0
 unfolding recordAt
 record-byte pg p i h = getD-take 8 (drop (recordOffset p) pg) i 0 h ∙ getD-drop (recordOffset p) pg i 0
 

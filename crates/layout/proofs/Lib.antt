@@ -1,3 +1,4 @@
 pub mod Offsets
 pub mod Cells
+pub mod Books
 pub mod Example

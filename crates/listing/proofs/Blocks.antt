@@ -4,6 +4,7 @@ use mathlib.Core.List.{List, [], _++_}
 use mathlib.Core.Path.{_≡_, refl, sym, ap, ap₂, _∙_}
 use native.Mathlib.Omega.{arith}
 use lib.ListN.{length, length-append}
+use Rattle.tables.specs.BookNumbers.{oneBook}
 use Rattle.rules.proofs.Blocks.{collected-to, collected-then}
 use Rattle.rules.proofs.Runs.{parts-none}
 use Rattle.rules.specs.Taking.{Received, after, collected}
@@ -24,16 +25,16 @@ took-none t pg = record {
 }
 
 module _ {t pg left : List ℕ} {refused : ℕ} (so-far : TookWhole t pg left refused) (block : List ℕ) {left′ : List ℕ} {more : ℕ}
-    (is-left : left′ ≡ collected t left block .page) (is-more : more ≡ collected t left block .refused) where
+    (is-left : left′ ≡ collected t oneBook left block .page) (is-more : more ≡ collected t oneBook left block .refused) where
   pub took-more : Took t pg left′ (refused + more)
   took-more =
       let before = so-far .took in
-      let all = collected-then t pg (before .bytes) block (so-far .records) (so-far .whole) in
+      let all = collected-then t oneBook pg (before .bytes) block (so-far .records) (so-far .whole) in
       record {
         bytes = before .bytes ++ block;
-        is-left = is-left ∙ ap (λ (page : List ℕ). collected t page block .page) (before .is-left) ∙ sym (ap (λ (s : Received). s .page) all);
+        is-left = is-left ∙ ap (λ (page : List ℕ). collected t oneBook page block .page) (before .is-left) ∙ sym (ap (λ (s : Received). s .page) all);
         is-refused =
-            ap₂ _+_ (before .is-refused) (is-more ∙ ap (λ (page : List ℕ). collected t page block .refused) (before .is-left)) ∙ sym (ap (λ (s : Received). s .refused) all);
+            ap₂ _+_ (before .is-refused) (is-more ∙ ap (λ (page : List ℕ). collected t oneBook page block .refused) (before .is-left)) ∙ sym (ap (λ (s : Received). s .refused) all);
       }
 
   pub took-block : (n : ℕ) → length block ≡ 8 * n → TookWhole t pg left′ (refused + more)
@@ -45,5 +46,5 @@ module _ {t pg left : List ℕ} {refused : ℕ} (so-far : TookWhole t pg left re
   }
 
 -- a block of at most 65,536 bytes has at most 8,192 parts, so no more takes are refused
-pub refused-few : (t pg block : List ℕ) {refused : ℕ} → refused ≡ collected t pg block .refused → length block ≤ 65536 → refused ≤ 8192
-refused-few t pg block is-refused h = omega (arith, is-refused, collected-to t pg block)
+pub refused-few : (t pg block : List ℕ) {refused : ℕ} → refused ≡ collected t oneBook pg block .refused → length block ≤ 65536 → refused ≤ 8192
+refused-few t pg block is-refused h = omega (arith, is-refused, collected-to t oneBook pg block)

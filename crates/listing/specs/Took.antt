@@ -3,11 +3,12 @@
 use Prim.Native.Nat.{ℕ}
 use mathlib.Core.List.{List}
 use mathlib.Core.Path.{_≡_}
+use Rattle.tables.specs.BookNumbers.{oneBook}
 use Rattle.rules.specs.Taking.{collected}
 
--- with the table t, some bytes were taken into a page that was pg, each 8 in turn and a shorter last part too: the
--- page is `left` now, and so many takes were refused
+-- with the table t and one book, some bytes were taken into a page that was pg, each 8 in turn and a shorter last part
+-- too: the page is `left` now, and so many takes were refused
 pub record Took (t pg left : List ℕ) (refused : ℕ) : Type 0 where
   pub bytes : List ℕ
-  pub is-left : left ≡ collected t pg bytes .page
-  pub is-refused : refused ≡ collected t pg bytes .refused
+  pub is-left : left ≡ collected t oneBook pg bytes .page
+  pub is-refused : refused ≡ collected t oneBook pg bytes .refused

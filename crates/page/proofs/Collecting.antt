@@ -17,23 +17,23 @@ use Rattle.answers.specs.declared.Refusal.{Refusal}
 use Rattle.rules.proofs.Runs.{parts-next, parts-none, parts-count, shut-after}
 use Rattle.rules.specs.Taking.{pageChecks, takeRest, takeChecks, takeInto, takeLeaves, refusals, Received, arrive, after, partsOf, collected}
 
-module _ (t pg : List ℕ) (ready : Passes (pageChecks t pg)) (x : List ℕ) where
-  pub leaves-all : {left : List ℕ} → left ≡ leaves (takeRest t pg x) (takeInto pg x) pg → left ≡ takeLeaves t pg x
-  leaves-all did = did ∙ passed-leaves (pageChecks t pg) (takeRest t pg x) (takeInto pg x) pg ready
+module _ (t : List ℕ) (books : ℕ) (pg : List ℕ) (ready : Passes (pageChecks t books pg)) (x : List ℕ) where
+  pub leaves-all : {left : List ℕ} → left ≡ leaves (takeRest t books pg x) (takeInto t pg x) pg → left ≡ takeLeaves t books pg x
+  leaves-all did = did ∙ passed-leaves (pageChecks t books pg) (takeRest t books pg x) (takeInto t pg x) pg ready
 
-  numbered : Numbered (takeRest t pg x)
-  numbered = (lit< tt, (lit< tt, (lit< tt, (lit< tt, tt))))
+  numbered : Numbered (takeRest t books pg x)
+  numbered = (lit< tt, (lit< tt, (lit< tt, (lit< tt, (lit< tt, tt)))))
 
-  fails-by : {b : Bool} → anyOf (failsOf (takeRest t pg x)) ≡ b → anyOf (failsOf (takeChecks t pg x)) ≡ b
-  fails-by e = fails-then (pageChecks t pg) (takeRest t pg x) ∙ rw (passes-fails (pageChecks t pg) ready) e
+  fails-by : {b : Bool} → anyOf (failsOf (takeRest t books pg x)) ≡ b → anyOf (failsOf (takeChecks t books pg x)) ≡ b
+  fails-by e = fails-then (pageChecks t books pg) (takeRest t books pg x) ∙ rw (passes-fails (pageChecks t books pg) ready) e
 
-  pub counts-0 : 0 ∷ [] ≡ firstOf (takeRest t pg x) (0 ∷ []) → 0 ≡ refusals t pg x
+  pub counts-0 : 0 ∷ [] ≡ firstOf (takeRest t books pg x) (0 ∷ []) → 0 ≡ refusals t books pg x
   unfolding refusals
-  counts-0 said = rw (fails-by (passes-fails (takeRest t pg x) (says-passes [] [] (takeRest t pg x) numbered (sym said)))) refl
+  counts-0 said = rw (fails-by (passes-fails (takeRest t books pg x) (says-passes [] [] (takeRest t books pg x) numbered (sym said)))) refl
 
-  pub counts-1 : (r : Refusal) → meaning r ≡ firstOf (takeRest t pg x) (0 ∷ []) → 1 ≡ refusals t pg x
+  pub counts-1 : (r : Refusal) → meaning r ≡ firstOf (takeRest t books pg x) (0 ∷ []) → 1 ≡ refusals t books pg x
   unfolding refusals
-  counts-1 r said = rw (fails-by (refusal-fails [] (takeRest t pg x) r said)) refl
+  counts-1 r said = rw (fails-by (refusal-fails [] (takeRest t books pg x) r said)) refl
 
 -- the part from `at` to `end`
 module _ (bytes : List ℕ) (at end : ℕ) (is-end : end ≡ min (at + 8) (length bytes)) (h : at < length bytes) where
@@ -65,22 +65,22 @@ module _ (bytes : List ℕ) (at end : ℕ) (is-end : end ≡ min (at + 8) (lengt
       ∙ ap₂ (λ (x rest : List ℕ). x ∷ partsOf rest) (sym part-is) rest-is
 
   -- a turn: the part is taken, and what is left decides
-  pub collects : (t : List ℕ) (pg page : List ℕ) (refused more : ℕ) {left : Received}
-      → page ≡ takeLeaves t pg (take (end - at) (drop at bytes)) → more ≡ refusals t pg (take (end - at) (drop at bytes))
-      → after t (record { page = pg; refused = refused }) (partsOf (drop at bytes)) ≡ left
-      → after t (record { page = page; refused = refused + more }) (partsOf (drop end bytes)) ≡ left
+  pub collects : (t : List ℕ) (books : ℕ) (pg page : List ℕ) (refused more : ℕ) {left : Received}
+      → page ≡ takeLeaves t books pg (take (end - at) (drop at bytes)) → more ≡ refusals t books pg (take (end - at) (drop at bytes))
+      → after t books (record { page = pg; refused = refused }) (partsOf (drop at bytes)) ≡ left
+      → after t books (record { page = page; refused = refused + more }) (partsOf (drop end bytes)) ≡ left
   unfolding after arrive
-  collects t pg page refused more is-page is-more e = rw (is-page, is-more) (rw parts-step at e)
+  collects t books pg page refused more is-page is-more e = rw (is-page, is-more) (rw parts-step at e)
 
 -- nothing is left
-pub all-collected : (t pg bytes : List ℕ) (at refused : ℕ) {left : Received} → length bytes ≤ at
-    → after t (record { page = pg; refused = refused }) (partsOf (drop at bytes)) ≡ left → record { page = pg; refused = refused } ≡ left
+pub all-collected : (t : List ℕ) (books : ℕ) (pg bytes : List ℕ) (at refused : ℕ) {left : Received} → length bytes ≤ at
+    → after t books (record { page = pg; refused = refused }) (partsOf (drop at bytes)) ≡ left → record { page = pg; refused = refused } ≡ left
 unfolding after
-all-collected t pg bytes at refused h e = rw (parts-none (drop at bytes) (rw (length-drop at bytes) (omega arith))) at e
+all-collected t books pg bytes at refused h e = rw (parts-none (drop at bytes) (rw (length-drop at bytes) (omega arith))) at e
 
--- a bad table or a page of another length: every part is refused, and the page is as it was
-pub shut-collected : (t pg bytes : List ℕ) → anyOf (failsOf (pageChecks t pg)) ≡ true
-    → collected t pg bytes ≡ record { page = pg; refused = (length bytes + 7) / 8 }
-shut-collected t pg bytes shut =
-    shut-after t (record { page = pg; refused = 0 }) (partsOf bytes) shut
+-- a number of books, a table or a page that is refused: every part is refused, and the page is as it was
+pub shut-collected : (t : List ℕ) (books : ℕ) (pg bytes : List ℕ) → anyOf (failsOf (pageChecks t books pg)) ≡ true
+    → collected t books pg bytes ≡ record { page = pg; refused = (length bytes + 7) / 8 }
+shut-collected t books pg bytes shut =
+    shut-after t books (record { page = pg; refused = 0 }) (partsOf bytes) shut
     ∙ ap (λ (n : ℕ). record { page = pg; refused = n }) (zero-add (length (partsOf bytes)) ∙ parts-count bytes)

@@ -1,9 +1,10 @@
-// The calls of the page (docs/RULES.md, "The page"): take a record, collect a run of records, read a place, one
-// coefficient, and the tally. The last three are given a mode. What they are made of stands in `inner`; what they are
-// to say, in `rules`.
+// The calls of the page (docs/RULES.md, "The page" and "Books"): take a record, collect a run of records, read a place,
+// one coefficient, and the tally. All are given the number of books; the last three are given a mode and a book, too.
+// What they are made of stands in `inner`; what they are to say, in `rules`.
 pub mod inner;
 
 use answers::Refusal;
+use cells::inner::spot::locate;
 use inner::reading::coefficient_at;
 use inner::reading::read_at;
 use inner::taking::collect_records;
@@ -16,9 +17,12 @@ use pairing::inner::survey::Surveyed;
 use places::inner::opening::survey_look;
 use places::inner::opening::survey_page;
 use places::inner::opening::survey_whole;
+use records::inner::Named;
 use rows::inner::row::row_at;
 use rules::Mode;
 use rules::Reason;
+use tables::Book;
+use tables::Books;
 ghost use mathlib.Core.Path.{_≡_};
 ghost use Rattle.rules.specs.Taking.{takeSays, takeLeaves, collected};
 ghost use Rattle.rules.specs.Reading.{readSays, readLeaves, coefficientSays, coefficientCarries};
@@ -73,70 +77,92 @@ pub enum Tallied {
     Refused(Refusal),
 }
 
-// The call take: a record into the page. It changes the cell of the record's place and no other byte.
-pub fn take(table: &[u8], page: &mut [u8], bytes: &[u8]) -> Arrival
-    ensures { λ r. ⌜ (takeMeaning r ≡ takeSays (now (table .entry)) (now (page .entry)) (now (bytes .entry)))
-        × (now (page .exit) ≡ takeLeaves (now (table .entry)) (now (page .entry)) (now (bytes .entry))) ⌝ }
+// The call take: a record into the page. It changes the cell of the record's place in its book and no other byte.
+pub fn take(table: &[u8], books: Books, page: &mut [u8], bytes: &[u8]) -> Arrival
+    ensures { λ r. ⌜ (takeMeaning r ≡ takeSays (now (table .entry)) (books .0) (now (page .entry)) (now (bytes .entry)))
+        × (now (page .exit) ≡ takeLeaves (now (table .entry)) (books .0) (now (page .entry)) (now (bytes .entry))) ⌝ }
 {
-    match survey_page(table, page, place_named(bytes)) {
+    match survey_page(table, books, page, place_named(bytes)) {
         Surveyed::Good { places, row } => {
             let foreign = names_other_row(bytes, row);
-            take_record(table, places, foreign, page, bytes)
+            take_record(table, places, books, foreign, page, bytes)
         }
         Surveyed::Bad(refusal) => Arrival::Refused(refusal),
     }
 }
 
 // The call collect: a run of bytes, eight by eight and a shorter last part too, each taken in turn; how many takes
-// were refused. With a bad table or a page of another length all of them are.
-pub fn collect(table: &[u8], page: &mut [u8], bytes: &[u8]) -> usize
-    ensures { λ r. ⌜ (r ≡ collected (now (table .entry)) (now (page .entry)) (now (bytes .entry)) .refused)
-        × (now (page .exit) ≡ collected (now (table .entry)) (now (page .entry)) (now (bytes .entry)) .page) ⌝ }
+// were refused. With a number of books, a table or a page that take would refuse, all of them are.
+pub fn collect(table: &[u8], books: Books, page: &mut [u8], bytes: &[u8]) -> usize
+    ensures { λ r. ⌜ (r ≡ collected (now (table .entry)) (books .0) (now (page .entry)) (now (bytes .entry)) .refused)
+        × (now (page .exit) ≡ collected (now (table .entry)) (books .0) (now (page .entry)) (now (bytes .entry)) .page) ⌝ }
 {
-    match survey_page(table, page, 0) {
-        Surveyed::Good { places, row: _ } => collect_records(table, places, page, bytes),
+    match survey_page(table, books, page, 0) {
+        Surveyed::Good { places, row: _ } => collect_records(table, places, books, page, bytes),
         Surveyed::Bad(_) => parts(bytes.len()),
     }
 }
 
-// The call read: the point of a place, or zeros, into the lent buffer once every check has passed.
-pub fn read(mode: Mode, table: &[u8], page: &[u8], place: usize, out: &mut [i32]) -> Reading
-    ensures { λ r. ⌜ (readMeaning r ≡ readSays (mode .0) (now (table .entry)) (now (page .entry)) place (now (out .entry)))
-        × (now (out .exit) ≡ readLeaves (mode .0) (now (table .entry)) (now (page .entry)) place (now (out .entry))) ⌝ }
+// The call read: the point of a place of a book, or zeros, into the lent buffer once every check has passed.
+pub fn read(
+    mode: Mode,
+    table: &[u8],
+    books: Books,
+    book: Book,
+    page: &[u8],
+    place: usize,
+    out: &mut [i32],
+) -> Reading
+    ensures { λ r. ⌜ (readMeaning r ≡ readSays (mode .0) (now (table .entry)) (books .0) (book .0) (now (page .entry)) place (now (out .entry)))
+        × (now (out .exit) ≡ readLeaves (mode .0) (now (table .entry)) (books .0) (book .0) (now (page .entry)) place (now (out .entry))) ⌝ }
 {
-    match survey_look(mode, table, page, place) {
+    match survey_look(mode, table, books, book, page, place) {
         Surveyed::Good { places, row } => {
-            read_at(mode, row_at(table, row), row, page, places, place, out)
+            let named = Named {
+                book: book.0,
+                place,
+                row,
+            };
+            let spot = locate(places, books.0, named);
+            read_at(mode, row_at(table, row), page, spot, out)
         }
         Surveyed::Bad(refusal) => Reading::Refused(refusal),
     }
 }
 
-// The call coefficient: one coordinate of a place, as its value.
-pub fn coefficient(mode: Mode, table: &[u8], page: &[u8], place: usize, coordinate: usize) -> Valued
-    ensures { λ r. ⌜ (coefficientMeaning r ≡ coefficientSays (mode .0) (now (table .entry)) (now (page .entry)) place coordinate)
-        × (coefficientValues r ≡ coefficientCarries (mode .0) (now (table .entry)) (now (page .entry)) place coordinate) ⌝ }
+// The call coefficient: one coordinate of a place of a book, as its value.
+pub fn coefficient(
+    mode: Mode,
+    table: &[u8],
+    books: Books,
+    book: Book,
+    page: &[u8],
+    place: usize,
+    coordinate: usize,
+) -> Valued
+    ensures { λ r. ⌜ (coefficientMeaning r ≡ coefficientSays (mode .0) (now (table .entry)) (books .0) (book .0) (now (page .entry)) place coordinate)
+        × (coefficientValues r ≡ coefficientCarries (mode .0) (now (table .entry)) (books .0) (book .0) (now (page .entry)) place coordinate) ⌝ }
 {
-    match survey_look(mode, table, page, place) {
-        Surveyed::Good { places, row } => coefficient_at(
-            mode,
-            row_at(table, row),
-            row,
-            page,
-            places,
-            place,
-            coordinate,
-        ),
+    match survey_look(mode, table, books, book, page, place) {
+        Surveyed::Good { places, row } => {
+            let named = Named {
+                book: book.0,
+                place,
+                row,
+            };
+            let spot = locate(places, books.0, named);
+            coefficient_at(mode, row_at(table, row), page, spot, coordinate)
+        }
         Surveyed::Bad(refusal) => Valued::Refused(refusal),
     }
 }
 
-// The call tally: the five counts.
-pub fn tally(mode: Mode, table: &[u8], page: &[u8]) -> Tallied
-    ensures { λ r. ⌜ tallyMeaning r ≡ tallySays (mode .0) (now (table .entry)) (now (page .entry)) ⌝ }
+// The call tally: the five counts of a book.
+pub fn tally(mode: Mode, table: &[u8], books: Books, book: Book, page: &[u8]) -> Tallied
+    ensures { λ r. ⌜ tallyMeaning r ≡ tallySays (mode .0) (now (table .entry)) (books .0) (book .0) (now (page .entry)) ⌝ }
 {
-    match survey_whole(mode, table, page) {
-        Surveyed::Good { places, row } => tally_page(mode, table, places, row, page),
+    match survey_whole(mode, table, books, book, page) {
+        Surveyed::Good { places, row } => tally_page(mode, table, places, books, book, row, page),
         Surveyed::Bad(refusal) => Tallied::Refused(refusal),
     }
 }

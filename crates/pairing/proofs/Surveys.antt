@@ -1,6 +1,6 @@
--- A survey by any checks: what its answer tells, what a call says and leaves whose survey is refused, and one check
--- more; and the row of a surveyed place, with what a call says and leaves that goes on with that row. So every call
--- that begins with a survey is argued in the same way, whatever the checks are.
+-- A survey by any checks: what its answer tells, what a call says and leaves whose survey is refused, one check before
+-- all others, and one more; and the row of a surveyed place, with what a call says and leaves that goes on with that
+-- row. So every call that begins with a survey is argued in the same way, whatever the checks are.
 use Prim.Native.Nat.{ℕ, _<_}
 use mathlib.Core.Path.{_≡_, refl, sym, ap, ap₂, _∙_}
 use mathlib.Core.List.{List, [], _∷_, _++_}
@@ -11,7 +11,8 @@ use Rattle.answers.specs.Checks.{Check, anyOf, firstOf, leaves, failsOf, Passes
 use Rattle.answers.specs.declared.Refusal.{Refusal}
 use Rattle.answers.proofs.InOrder.{Numbered, says-passes, passes-says, passed-says, passed-leaves, refused-says, refused-leaves, refusal-fails}
 use Rattle.tables.specs.Row.{rowLength, IsRow}
-use Rattle.tables.specs.Table.{rowsOf, rowAt, placesIn, Good, placeChecks, rowOf, rowFor, surveySays}
+use Rattle.tables.specs.Table.{rowsOf, rowAt, placesIn, Good, rowOf, rowFor, surveySays}
+use Rattle.tables.specs.BookNumbers.{placeChecks}
 use Rattle.tables.proofs.Good.{good-place}
 use Rattle.tables.proofs.PlaceChecks.{place-numbered}
 use Rattle.pairing.specs.Meanings.{surveyMeaning}
@@ -46,6 +47,14 @@ module _ (checks : List Check) (t : List ℕ) (p : ℕ) {survey : Surveyed} (say
     pub survey-leaves : {A : Type 0} (rest : List Check) (made held : A) → held ≡ leaves (checks ++ rest) made held
     survey-leaves rest made held = refused-leaves checks rest made held (placesIn t ∷ rowOf t p ∷ []) r said
 
+-- a check before all others: it is given, or it is not and they are asked
+module _ (c : Check) (checks : List Check) (t : List ℕ) (p : ℕ) where
+  pub first-fails : c .fails ≡ true → c .number ∷ c .values ≡ surveySays (c ∷ checks) t p
+  first-fails fails = rw fails refl
+
+  pub first-passes : {said : List ℕ} → c .fails ≡ false → said ≡ surveySays checks t p → said ≡ surveySays (c ∷ checks) t p
+  first-passes passes says = rw passes says
+
 -- one check more
 module _ {checks : List Check} {t : List ℕ} {p places row : ℕ} (found : Surveys checks t p places row) (c : Check) where
   pub one-fails : c .fails ≡ true → c .number ∷ c .values ≡ surveySays (checks ++ (c ∷ [])) t p
@@ -56,10 +65,11 @@ module _ {checks : List Check} {t : List ℕ} {p places row : ℕ} (found : Surv
       let told : _≡_ {A = List ℕ} (0 ∷ places ∷ row ∷ []) (firstOf (c ∷ []) (0 ∷ placesIn t ∷ rowOf t p ∷ [])) = rw (passes, found .is-places, found .is-row) refl in
       told ∙ passed-says checks (c ∷ []) (0 ∷ placesIn t ∷ rowOf t p ∷ []) (found .passes)
 
--- a table and a place that were found good
-pub surveyed-place : (t : List ℕ) (p : ℕ) {survey : Surveyed} {places row : ℕ} → surveyMeaning survey ≡ surveySays (placeChecks t p) t p
-    → survey ≡ surveyed.Good places row → Surveys (placeChecks t p) t p places row
-surveyed-place t p says told = survey-good (placeChecks t p) t p says (place-numbered t p) told
+-- a table and a place of a book that were found good
+pub surveyed-place : (t : List ℕ) (books book p : ℕ) {survey : Surveyed} {places row : ℕ}
+    → surveyMeaning survey ≡ surveySays (placeChecks t books book p) t p
+    → survey ≡ surveyed.Good places row → Surveys (placeChecks t books book p) t p places row
+surveyed-place t books book p says told = survey-good (placeChecks t books book p) t p says (place-numbered t books book p) told
 
 -- the row of a surveyed place is one of the table
 module _ {checks : List Check} {t : List ℕ} {p places n : ℕ} (found : Surveys checks t p places n) (placed : Good t × (p < placesIn t)) where

@@ -1,6 +1,7 @@
 // The calls of the other crates, exported to C for the second program alone. An answer and a refusal come back in
 // one number: the answer itself, or 2^40 plus the refusal's number. Point answers as the calls in `pages` do.
 pub mod pages;
+pub mod said;
 
 use answers::Refusal;
 use answers::in_numbers;
@@ -18,6 +19,8 @@ use quantizer::Quantized;
 use quantizer::quantize;
 use shell::Counted;
 use shell::count;
+use tables::Book;
+use tables::Books;
 ghost use mathlib.Core.Path.{_≡_};
 ghost use lib.ListN.{getD};
 ghost use Rattle.shell.specs.Shell.{countSays};
@@ -59,13 +62,13 @@ pub extern "C" fn probe_index(selector: usize, length: usize, radius: usize, x: 
     }
 }
 
-// An item of what point answers, as in `pages`.
+// An item of what point answers, as in `said`.
 fn point_item(answer: Pointed, which: usize) -> u64
     ensures { λ r. ⌜ r ≡ getD (pointMeaning answer) which 0 ⌝ }
 {
     match answer {
         Pointed::Written => 0,
-        Pointed::Refused(refusal) => pages::refused(refusal, which),
+        Pointed::Refused(refusal) => said::refused(refusal, which),
     }
 }
 
@@ -148,26 +151,30 @@ fn quantize_value(answer: Quantized) -> usize
 #[no_mangle]
 pub extern "C" fn probe_quantize(
     table: &[u8],
+    books: usize,
+    book: usize,
     place: usize,
     coefficients: &[f32],
     out: &mut [u8],
 ) -> u32
-    ensures { λ r. ⌜ (r ≡ numberSaid (quantizeSays (now (table .entry)) place (now (coefficients .entry)) (now (out .entry))))
-        × (now (out .exit) ≡ quantizeLeaves (now (table .entry)) place (now (coefficients .entry)) (now (out .entry))) ⌝ }
+    ensures { λ r. ⌜ (r ≡ numberSaid (quantizeSays (now (table .entry)) books book place (now (coefficients .entry)) (now (out .entry))))
+        × (now (out .exit) ≡ quantizeLeaves (now (table .entry)) books book place (now (coefficients .entry)) (now (out .entry))) ⌝ }
 {
-    quantize_number(quantize(table, place, coefficients, out))
+    quantize_number(quantize(table, Books(books), Book(book), place, coefficients, out))
 }
 
 // The call quantize, by its value.
 #[no_mangle]
 pub extern "C" fn probe_quantize_value(
     table: &[u8],
+    books: usize,
+    book: usize,
     place: usize,
     coefficients: &[f32],
     out: &mut [u8],
 ) -> usize
-    ensures { λ r. ⌜ (r ≡ valued (quantizeSays (now (table .entry)) place (now (coefficients .entry)) (now (out .entry))))
-        × (now (out .exit) ≡ quantizeLeaves (now (table .entry)) place (now (coefficients .entry)) (now (out .entry))) ⌝ }
+    ensures { λ r. ⌜ (r ≡ valued (quantizeSays (now (table .entry)) books book place (now (coefficients .entry)) (now (out .entry))))
+        × (now (out .exit) ≡ quantizeLeaves (now (table .entry)) books book place (now (coefficients .entry)) (now (out .entry))) ⌝ }
 {
-    quantize_value(quantize(table, place, coefficients, out))
+    quantize_value(quantize(table, Books(books), Book(book), place, coefficients, out))
 }

@@ -22,7 +22,7 @@ use Rattle.coefficients.proofs.Radii.{number-below, some-total}
 use Rattle.coding.specs.Coded.{radiusNumberFor, radiusFor, pointFor, codewordFor}
 use Rattle.quantizer.specs.Calls.{recordFor}
 
-module _ (t : List ℕ) (p : ℕ) (xs : List Float) (good : Good t) (h : p < placesIn t) (long : length xs ≡ lengthFor t p) where
+module _ (t : List ℕ) (book p : ℕ) (xs : List Float) (good : Good t) (few : book < 16) (h : p < placesIn t) (long : length xs ≡ lengthFor t p) where
   row-good : GoodRow (rowFor t p)
   row-good = good-place t p good h .1
 
@@ -41,14 +41,15 @@ module _ (t : List ℕ) (p : ℕ) (xs : List Float) (good : Good t) (h : p < pla
 
   -- a record with that radius number and any codeword below the total holds its fields
   pub fields-held : (codeword : ℕ) → codeword < shellTotal (rowFor t p) (radiusFor (rowFor t p) xs)
-      → Holds (recordOf p (rowOf t p) (radiusNumberFor (rowFor t p) xs) codeword) p (rowOf t p) (radiusNumberFor (rowFor t p) xs) codeword
+      → Holds (recordOf book p (rowOf t p) (radiusNumberFor (rowFor t p) xs) codeword) book p (rowOf t p) (radiusNumberFor (rowFor t p) xs) codeword
   fields-held codeword below =
-      record-holds p (rowOf t p) (radiusNumberFor (rowFor t p) xs) codeword (record {
+      record-holds book p (rowOf t p) (radiusNumberFor (rowFor t p) xs) codeword (record {
+        book-fits = few;
         place-fits = omega (arith, h, good-total t good (rowsOf t) (le-refl (rowsOf t)));
         row-fits = omega (arith, good-place t p good h .0, right-size t good .rows-to);
         radius-number-fits = omega (arith, number-in, row-good .radii-to);
         codeword-fits = lt-of-lt-of-le below (shell-usable .points-to);
       })
 
-  pub record-written : Holds (recordFor t p xs) p (rowOf t p) (radiusNumberFor (rowFor t p) xs) (codewordFor (rowFor t p) xs)
+  pub record-written : Holds (recordFor t book p xs) book p (rowOf t p) (radiusNumberFor (rowFor t p) xs) (codewordFor (rowFor t p) xs)
   record-written = fields-held (codewordFor (rowFor t p) xs) codeword-below

@@ -1,21 +1,24 @@
 // The call quantize (docs/RULES.md, "Quantizing into a record"): one vector of coefficients into the record of a
-// place. What it works with stands in `coefficients` and `coding`.
+// place in a book. What it works with stands in `coefficients` and `coding`.
 use answers::Refusal;
 use answers::Verdict;
 use coding::inner::write_record;
 use coefficients::inner::coefficients::check_coefficients;
+use pairing::inner::books::survey_place;
 use pairing::inner::survey::Surveyed;
-use pairing::inner::survey::survey_place;
+use records::inner::Named;
 use records::inner::wrong_record;
 use rows::inner::row::length;
 use rows::inner::row::row_at;
+use tables::Book;
+use tables::Books;
 ghost use mathlib.Core.Path.{_≡_};
 ghost use mathlib.Core.List.{[], _∷_};
 ghost use lib.ListN as listed;
 ghost use Rattle.answers.specs.Checks.{firstOf, leaves};
 ghost use Rattle.tables.specs.Row.{IsRow};
-ghost use Rattle.records.specs.Record.{recordOf};
-ghost use Rattle.coding.specs.Coded.{radiusNumberFor, codewordFor};
+ghost use Rattle.records.specs.Naming.{InField};
+ghost use Rattle.coding.specs.Coded.{recordNamed};
 ghost use Rattle.quantizer.specs.Calls.{quantizeRest, quantizeMeaning, quantizeSays, quantizeLeaves};
 
 pub enum Quantized {
@@ -24,37 +27,39 @@ pub enum Quantized {
 }
 
 // The call quantize: the record is written once every check has passed.
-pub fn quantize(table: &[u8], place: usize, coefficients: &[f32], out: &mut [u8]) -> Quantized
-    ensures { λ r. ⌜ (quantizeMeaning r ≡ quantizeSays (now (table .entry)) place (now (coefficients .entry)) (now (out .entry)))
-        × (now (out .exit) ≡ quantizeLeaves (now (table .entry)) place (now (coefficients .entry)) (now (out .entry))) ⌝ }
-{
-    match survey_place(table, place) {
-        Surveyed::Good { places: _, row } => quantize_at(
-            row_at(table, row),
-            row,
-            place,
-            coefficients,
-            out,
-        ),
-        Surveyed::Bad(refusal) => Quantized::Refused(refusal),
-    }
-}
-
-// What quantize does at a place of this row, whose number goes into the record: the checks 4, 4 and 11, and the work.
-fn quantize_at(
-    row: &[u8],
-    number: usize,
+pub fn quantize(
+    table: &[u8],
+    books: Books,
+    book: Book,
     place: usize,
     coefficients: &[f32],
     out: &mut [u8],
 ) -> Quantized
-    requires { ⌜ IsRow (now row) ⌝ }
+    ensures { λ r. ⌜ (quantizeMeaning r ≡ quantizeSays (now (table .entry)) (books .0) (book .0) place (now (coefficients .entry)) (now (out .entry)))
+        × (now (out .exit) ≡ quantizeLeaves (now (table .entry)) (books .0) (book .0) place (now (coefficients .entry)) (now (out .entry))) ⌝ }
+{
+    match survey_place(table, books, book, place) {
+        Surveyed::Good { places: _, row } => {
+            let named = Named {
+                book: book.0,
+                place,
+                row,
+            };
+            quantize_at(row_at(table, row), named, coefficients, out)
+        }
+        Surveyed::Bad(refusal) => Quantized::Refused(refusal),
+    }
+}
+
+// What quantize does in this row, with the book, the place and the row's number that go into the record: the checks 4,
+// 4 and 11, and the work.
+fn quantize_at(row: &[u8], named: Named, coefficients: &[f32], out: &mut [u8]) -> Quantized
+    requires { ⌜ IsRow (now row) × InField named ⌝ }
     ensures { λ r. ⌜ (quantizeMeaning r
         ≡ firstOf (quantizeRest (now (row .entry)) (now (coefficients .entry)) (listed.length (now (out .entry)))) (0 ∷ []))
         × (now (out .exit)
         ≡ leaves (quantizeRest (now (row .entry)) (now (coefficients .entry)) (listed.length (now (out .entry))))
-        (recordOf place number (radiusNumberFor (now (row .entry)) (now (coefficients .entry))) (codewordFor (now (row .entry)) (now (coefficients .entry))))
-        (now (out .entry))) ⌝ }
+        (recordNamed named (now (row .entry)) (now (coefficients .entry))) (now (out .entry))) ⌝ }
 {
     if coefficients.len() != length(row).0 {
         return Quantized::Refused(Refusal::BufferLength);
@@ -64,7 +69,7 @@ fn quantize_at(
     }
     match check_coefficients(coefficients) {
         Verdict::Passed => {
-            write_record(row, number, place, coefficients, out);
+            write_record(row, named, coefficients, out);
             Quantized::Written
         }
         Verdict::Refused(refusal) => Quantized::Refused(refusal),

@@ -4,7 +4,7 @@ use mathlib.Core.Path.{_≡_, refl, sym, ap, _∙_}
 use mathlib.Core.List.{List, [], _∷_, _++_, append-nil}
 use native.Mathlib.Nat.{le-of-eq, zero-add, div-one}
 use lib.ListN.{length, drop}
-use Rattle.records.specs.Record.{recordLength, recordOf}
+use Rattle.records.specs.Record.{recordLength, fieldOf, recordOf}
 use lib.Seq.{sets, sets-eq, drop-length}
 
 all-stored : (bytes held : List ℕ) → length bytes ≡ length held → sets held 0 bytes ≡ bytes
@@ -15,11 +15,11 @@ all-stored bytes held same =
     ∙ append-nil bytes
 
 -- so with the eight bytes of a record, each worked out by itself
-pub record-stored : (place row number codeword : ℕ) (held : List ℕ) → length held ≡ recordLength → {a b c d e f g h : ℕ}
-    → a ≡ place / 256 % 256 → b ≡ place % 256 → c ≡ row % 256 → d ≡ number % 256
+pub record-stored : (book place row number codeword : ℕ) (held : List ℕ) → length held ≡ recordLength → {field a b c d e f g h : ℕ}
+    → field ≡ fieldOf book place → a ≡ field / 256 % 256 → b ≡ field % 256 → c ≡ row % 256 → d ≡ number % 256
     → e ≡ codeword / 16777216 % 256 → f ≡ codeword / 65536 % 256 → g ≡ codeword / 256 % 256 → h ≡ codeword % 256
-    → sets held 0 (a ∷ b ∷ c ∷ d ∷ e ∷ f ∷ g ∷ h ∷ []) ≡ recordOf place row number codeword
+    → sets held 0 (a ∷ b ∷ c ∷ d ∷ e ∷ f ∷ g ∷ h ∷ []) ≡ recordOf book place row number codeword
 unfolding recordOf
-record-stored place row number codeword held same {a} {b} {c} {d} {e} {f} {g} {h} ea eb ec ed ee ef eg eh =
+record-stored book place row number codeword held same {field} {a} {b} {c} {d} {e} {f} {g} {h} is-field ea eb ec ed ee ef eg eh =
     all-stored (a ∷ b ∷ c ∷ d ∷ e ∷ f ∷ g ∷ h ∷ []) held (sym same)
-    ∙ rw (ea, eb, ec, ed, ee, ef, eg, eh, div-one place, div-one row, div-one number, div-one codeword) refl
+    ∙ rw (ea, eb, ec, ed, ee, ef, eg, eh, is-field, div-one (fieldOf book place), div-one row, div-one number, div-one codeword) refl

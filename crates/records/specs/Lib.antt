@@ -1,2 +1,3 @@
 pub mod Record
+pub mod Naming
 pub mod Example

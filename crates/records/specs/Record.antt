@@ -1,6 +1,6 @@
--- A record (docs/RULES.md, "Quantizing into a record"): 8 bytes, place (2), row (1), radius number within the row
--- (1), codeword (4), high byte first.
-use Prim.Native.Nat.{ℕ, _^_, _<_}
+-- A record (docs/RULES.md, "Quantizing into a record"): 8 bytes, book and place in one field (2), row (1), radius
+-- number within the row (1), codeword (4), high byte first.
+use Prim.Native.Nat.{ℕ, _+_, _*_, _/_, _%_, _^_, _<_}
 use mathlib.Core.Path.{_≡_}
 use mathlib.Core.List.{List, [], _∷_, _++_}
 use mathlib.Core.Bool.{Bool, true, false, _&&_}
@@ -17,11 +17,22 @@ recordLength = 8
 abbrev pub recordCheck : ℕ → Check
 recordCheck b = lengthCheck b recordLength
 
-unfoldable pub recordOf : ℕ → ℕ → ℕ → ℕ → List ℕ
-recordOf place row radiusNumber codeword = highFirst 2 place ++ highFirst 1 row ++ highFirst 1 radiusNumber ++ highFirst 4 codeword
+-- the place field: its upper four bits number the book, its lower twelve the place
+abbrev pub fieldOf : ℕ → ℕ → ℕ
+fieldOf book place = 4096 * book + place
+
+unfoldable pub recordOf : ℕ → ℕ → ℕ → ℕ → ℕ → List ℕ
+recordOf book place row radiusNumber codeword =
+    highFirst 2 (fieldOf book place) ++ highFirst 1 row ++ highFirst 1 radiusNumber ++ highFirst 4 codeword
+
+abbrev pub fieldIn : List ℕ → ℕ
+fieldIn bytes = fromHigh (take 2 bytes)
+
+abbrev pub bookIn : List ℕ → ℕ
+bookIn bytes = fieldIn bytes / 4096
 
 abbrev pub placeIn : List ℕ → ℕ
-placeIn bytes = fromHigh (take 2 bytes)
+placeIn bytes = fieldIn bytes % 4096
 
 abbrev pub rowIn : List ℕ → ℕ
 rowIn bytes = fromHigh (take 1 (drop 2 bytes))
@@ -39,16 +50,18 @@ sameBytes [] (y ∷ ys) = false
 sameBytes (x ∷ xs) [] = false
 sameBytes (x ∷ xs) (y ∷ ys) = eqb x y && sameBytes xs ys
 
--- what a record holds are these four fields
-pub record Holds (bytes : List ℕ) (place row radiusNumber codeword : ℕ) : Type 0 where
+-- what a record holds: the book, and these four
+pub record Holds (bytes : List ℕ) (book place row radiusNumber codeword : ℕ) : Type 0 where
+  pub holds-book : bookIn bytes ≡ book
   pub holds-place : placeIn bytes ≡ place
   pub holds-row : rowIn bytes ≡ row
   pub holds-radius-number : radiusNumberIn bytes ≡ radiusNumber
   pub holds-codeword : codewordIn bytes ≡ codeword
 
--- fields that fit their bytes, so that nothing is cut
-pub record Fits (place row radiusNumber codeword : ℕ) : Type 0 where
-  pub place-fits : place < 65536
+-- they fit their bits, so that nothing is cut
+pub record Fits (book place row radiusNumber codeword : ℕ) : Type 0 where
+  pub book-fits : book < 16
+  pub place-fits : place < 4096
   pub row-fits : row < 256
   pub radius-number-fits : radiusNumber < 256
   pub codeword-fits : codeword < 2 ^ 32

@@ -2,7 +2,15 @@
 ghost use mathlib.Core.Path.{_≡_};
 ghost use Prim.Native.Nat.{_%_, _^_, _<_};
 ghost use lib.ListN.{length, getD};
-ghost use Rattle.records.specs.Record.{recordLength, recordCheck, sameBytes, recordOf, placeIn, rowIn, radiusNumberIn, codewordIn};
+ghost use Rattle.records.specs.Record.{recordLength, recordCheck, sameBytes, fieldOf, recordOf, radiusNumberIn, codewordIn};
+ghost use Rattle.records.specs.Naming.{IsNamed, InField};
+
+// What a record names: the book, the place in that book, and the row of the place.
+pub struct Named {
+    pub book: usize,
+    pub place: usize,
+    pub row: usize,
+}
 
 // Whether so many bytes are no record.
 pub fn wrong_record(bytes: usize) -> bool
@@ -33,14 +41,23 @@ fn low_byte(n: u64) -> u8
     (n % 256) as u8
 }
 
-// The place, the row, the radius number and the codeword.
-pub fn write(place: u64, row: u64, number: u64, codeword: u64, out: &mut [u8])
-    requires { ⌜ length (now out) ≡ recordLength ⌝ }
-    ensures { λ _. ⌜ now (out .exit) ≡ recordOf place row number codeword ⌝ }
+// The place field: the book above the twelve bits of the place.
+fn field(named: Named) -> u64
+    requires { ⌜ InField named ⌝ }
+    ensures { λ n. ⌜ n ≡ fieldOf (named .book) (named .place) ⌝ }
 {
-    out[0] = low_byte(place / 256);
-    out[1] = low_byte(place);
-    out[2] = low_byte(row);
+    (4096 * named.book + named.place) as u64
+}
+
+// The book and the place, the row, the radius number and the codeword.
+pub fn write(named: Named, number: u64, codeword: u64, out: &mut [u8])
+    requires { ⌜ InField named × (length (now out) ≡ recordLength) ⌝ }
+    ensures { λ _. ⌜ now (out .exit) ≡ recordOf (named .book) (named .place) (named .row) number codeword ⌝ }
+{
+    let field = field(named);
+    out[0] = low_byte(field / 256);
+    out[1] = low_byte(field);
+    out[2] = low_byte(named.row as u64);
     out[3] = low_byte(number);
     out[4] = low_byte(codeword / 16777216);
     out[5] = low_byte(codeword / 65536);
@@ -55,18 +72,17 @@ fn byte(bytes: &[u8], at: usize) -> usize
     bytes[at] as usize
 }
 
-pub fn place_in(bytes: &[u8]) -> usize
+// The book, the place and the row.
+pub fn named_in(bytes: &[u8]) -> Named
     requires { ⌜ length (now bytes) ≡ recordLength ⌝ }
-    ensures { λ n. ⌜ (n ≡ placeIn (now (bytes .entry))) × (n < 65536) ⌝ }
+    ensures { λ n. ⌜ IsNamed (now (bytes .entry)) n ⌝ }
 {
-    256 * byte(bytes, 0) + byte(bytes, 1)
-}
-
-pub fn row_in(bytes: &[u8]) -> usize
-    requires { ⌜ length (now bytes) ≡ recordLength ⌝ }
-    ensures { λ n. ⌜ (n ≡ rowIn (now (bytes .entry))) × (n < 256) ⌝ }
-{
-    byte(bytes, 2)
+    let field = 256 * byte(bytes, 0) + byte(bytes, 1);
+    Named {
+        book: field / 4096,
+        place: field % 4096,
+        row: byte(bytes, 2),
+    }
 }
 
 // The radius number.

@@ -1,3 +1,4 @@
 pub mod Joined
 pub mod LinesSays
 pub mod OneToOne
+pub mod Spanned

@@ -15,11 +15,11 @@ use Rattle.answers.specs.declared.Refusal.{Refusal}
 use Rattle.answers.specs.declared.Refusal.the-variants as refusal
 use Rattle.buffers.proofs.Writing.{begins-with, wrote-length}
 use Rattle.buffers.specs.Written.{Wrote}
-use Rattle.tables.proofs.Good.{places-to}
 use Rattle.tables.proofs.Walking.{placed-in}
-use Rattle.rules.proofs.Pages.{look-place, look-size}
+use Rattle.rules.proofs.Pages.{look-shared, look-place, look-size}
 use Rattle.rules.specs.Taking.{cellCheckAt}
 use Rattle.report.specs.Bounds.{HasRoom, Listable}
+use Rattle.report.specs.declared.inner.block.Span.{Span}
 use Rattle.reporting.specs.Calls.{startingWith, lineSpace, noRoom, linesFit, linesRest, linesText, linesAnswer, lineSays, lineLeaves}
 use Rattle.reporting.specs.Listing.{linesFrom}
 
@@ -48,37 +48,51 @@ module _ (text held : List ℕ) where
       (rw size (did .0), did .1 .0, did .1 .1)
 
 -- ---- the lines of the places from p on
-module _ (mode : ℕ) (t pg : List ℕ) (p : ℕ) (held : List ℕ) where
+module _ (mode : ℕ) (t pg : List ℕ) (book p : ℕ) (held : List ℕ) where
   abbrev pub SaysLines : List ℕ → List ℕ → ℕ → Type 0
-  SaysLines = Says (linesRest t pg p (length held)) (linesAnswer mode t pg p (length held)) (linesText mode t pg p (length held)) held
+  SaysLines = Says (linesRest t pg book p (length held)) (linesAnswer mode t pg book p (length held)) (linesText mode t pg book p (length held)) held
 
-  lines-refused : (r : Refusal) → meaning r ≡ firstOf (linesRest t pg p (length held)) (0 ∷ []) → SaysLines (meaning r) held 0
+  lines-refused : (r : Refusal) → meaning r ≡ firstOf (linesRest t pg book p (length held)) (0 ∷ []) → SaysLines (meaning r) held 0
   lines-refused r said =
       let b = length held in
-      let cs = linesRest t pg p b in
-      (refusal-stands [] (linesAnswer mode t pg p b) cs r said, (refusal-leaves (startingWith (linesText mode t pg p b) held) held [] cs r said, omega arith))
+      let cs = linesRest t pg book p b in
+      (refusal-stands [] (linesAnswer mode t pg book p b) cs r said, (refusal-leaves (startingWith (linesText mode t pg book p b) held) held [] cs r said, omega arith))
 
   pub lines-4 : length held < lineSpace → SaysLines (4 ∷ []) held 0
   lines-4 short = lines-refused refusal.BufferLength (rw (lt-ltb (length held) lineSpace short) refl)
 
-module _ {mode : ℕ} {t pg : List ℕ} {p places row : ℕ} (found : Listable mode t pg p places row) where
-  pub from-places : p ≤ places
-  from-places = omega (arith, found .is-places, look-place mode t pg p (found .passes) .1)
+module _ {mode : ℕ} {t pg : List ℕ} {opened : Span} (found : Listable mode t pg opened) where
+  abbrev p : ℕ
+  p = opened .from
+
+  abbrev book : ℕ
+  book = opened .book
+
+  abbrev books : ℕ
+  books = opened .books
+
+  pub from-places : p ≤ opened .to
+  from-places = omega (arith, found .to-end, found .is-places, look-place mode t books book pg p (found .passes) .1)
 
   -- as many as there are, or as there is room for
-  module _ (held : List ℕ) {count : ℕ} (is-count : count ≡ min (places - p) (length held / lineSpace)) where
+  module _ (held : List ℕ) {count : ℕ} (is-count : count ≡ min (opened .to - p) (length held / lineSpace)) where
     fits : p + count - p ≡ linesFit t p (length held)
-    fits = rw (← found .is-places) (omega (arith, is-count))
+    fits = rw (← found .is-places, ← found .to-end) (omega (arith, is-count))
 
-    pub has-room : HasRoom t row pg places p (p + count) held
+    abbrev pub spanned : Span
+    spanned = record { places = opened .places; books = books; book = book; row = opened .row; from = p; to = p + count }
+
+    pub has-room : HasRoom t pg spanned held
     has-room =
-        let place = look-place mode t pg p (found .passes) in
+        let place = look-place mode t books book pg p (found .passes) in
+        let shared = look-shared mode t books book pg p (found .passes) in
         record {
           spans = record {
-            size = rw (found .is-places) (look-size mode t pg p (found .passes));
-            places-to = rw (found .is-places) (places-to t (place .0));
-            to-places = omega (arith, from-places, is-count);
+            shared = shared .0;
+            size = look-size mode t books book pg p (found .passes);
+            in-books = shared .1;
             is-places = found .is-places;
+            to-places = omega (arith, from-places, is-count, found .to-end);
             placed = placed-in (place .0) (place .1) (found .is-row);
             from-to = omega arith;
           };
@@ -87,16 +101,18 @@ module _ {mode : ℕ} {t pg : List ℕ} {p places row : ℕ} (found : Listable m
 
     -- what is said of their cells, and then written
     module _ (room : lineSpace ≤ length held) where
-      pub lines-12 : (r : Refusal) → meaning r ≡ firstOf (eachFrom (cellCheckAt t pg) p (p + count - p)) (0 ∷ []) → SaysLines mode t pg p held (meaning r) held 0
-      lines-12 r said = lines-refused mode t pg p held r (rw (le-ltb (length held) lineSpace room) (rw fits at said))
+      pub lines-12 : (r : Refusal) → meaning r ≡ firstOf (eachFrom (cellCheckAt t pg book) p (p + count - p)) (0 ∷ [])
+          → SaysLines mode t pg book p held (meaning r) held 0
+      lines-12 r said = lines-refused mode t pg book p held r (rw (le-ltb (length held) lineSpace room) (rw fits at said))
 
-      pub lines-written : {end : ℕ} {x : List ℕ} → 0 ∷ [] ≡ firstOf (eachFrom (cellCheckAt t pg) p (p + count - p)) (0 ∷ [])
-          → Wrote held 0 (linesFrom mode t pg p (p + count - p)) (lineSpace * (p + count - p)) end x → SaysLines mode t pg p held (0 ∷ (p + count) ∷ end ∷ []) x end
+      pub lines-written : {end : ℕ} {x : List ℕ} → 0 ∷ [] ≡ firstOf (eachFrom (cellCheckAt t pg book) p (p + count - p)) (0 ∷ [])
+          → Wrote held 0 (linesFrom mode t pg book p (p + count - p)) (lineSpace * (p + count - p)) end x
+          → SaysLines mode t pg book p held (0 ∷ (p + count) ∷ end ∷ []) x end
       lines-written {end} said w =
           let b = length held in
-          let none-bad = says-passes [] [] (eachFrom (cellCheckAt t pg) p (linesFit t p b)) (each-numbered (cellCheckAt t pg) p (linesFit t p b) (λ j. lit< tt)) (sym (rw fits at said)) in
+          let none-bad = says-passes [] [] (eachFrom (cellCheckAt t pg book) p (linesFit t p b)) (each-numbered (cellCheckAt t pg book) p (linesFit t p b) (λ j. lit< tt)) (sym (rw fits at said)) in
           let wrote = rw fits at w in
           let to : p + count ≡ p + linesFit t p b = omega (arith, fits) in
-          let size : end ≡ length (linesText mode t pg p b) = omega (arith, wrote .ends) in
-          let did = says-written (linesRest t pg p b) (linesAnswer mode t pg p b) (linesText mode t pg p b) held (le-ltb b lineSpace room, none-bad) (rw fits at (has-room .room)) wrote in
+          let size : end ≡ length (linesText mode t pg book p b) = omega (arith, wrote .ends) in
+          let did = says-written (linesRest t pg book p b) (linesAnswer mode t pg book p b) (linesText mode t pg book p b) held (le-ltb b lineSpace room, none-bad) (rw fits at (has-room .room)) wrote in
           (rw (to, size) (did .0), did .1)

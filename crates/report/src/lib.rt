@@ -3,12 +3,15 @@
 pub mod inner;
 
 use answers::Refusal;
+use inner::block::Span;
 use inner::block::lines_from;
 use inner::refusal::write_refusal;
 use page::Counts;
 use pairing::inner::survey::Surveyed;
 use places::inner::opening::survey_look;
 use rules::Mode;
+use tables::Book;
+use tables::Books;
 use text::inner::lines::write_last_line;
 ghost use mathlib.Core.Path.{_≡_};
 ghost use Prim.Native.Nat.{_≤_};
@@ -32,15 +35,33 @@ pub enum Lined {
     Refused(Refusal),
 }
 
-// The call lines: those of the places from `from` on in a mode, as many as there are or as the buffer has room for, 256
-// bytes each.
-pub fn lines(mode: Mode, table: &[u8], page: &[u8], from: usize, out: &mut [u8]) -> Listed
-    ensures { λ r. ⌜ (listedMeaning r ≡ linesSays (mode .0) (now (table .entry)) (now (page .entry)) from (now (out .entry)))
-        × (now (out .exit) ≡ linesLeaves (mode .0) (now (table .entry)) (now (page .entry)) from (now (out .entry)))
+// The call lines: those of the places of a book from `from` on in a mode, as many as there are or as the buffer has
+// room for, 256 bytes each.
+pub fn lines(
+    mode: Mode,
+    table: &[u8],
+    books: Books,
+    book: Book,
+    page: &[u8],
+    from: usize,
+    out: &mut [u8],
+) -> Listed
+    ensures { λ r. ⌜ (listedMeaning r ≡ linesSays (mode .0) (now (table .entry)) (books .0) (book .0) (now (page .entry)) from (now (out .entry)))
+        × (now (out .exit) ≡ linesLeaves (mode .0) (now (table .entry)) (books .0) (book .0) (now (page .entry)) from (now (out .entry)))
         × (sizeListed r ≤ length (now (out .exit))) ⌝ }
 {
-    match survey_look(mode, table, page, from) {
-        Surveyed::Good { places, row } => lines_from(mode, table, places, row, page, from, out),
+    match survey_look(mode, table, books, book, page, from) {
+        Surveyed::Good { places, row } => {
+            let opened = Span {
+                places,
+                books: books.0,
+                book: book.0,
+                row,
+                from,
+                to: places,
+            };
+            lines_from(mode, table, page, opened, out)
+        }
         Surveyed::Bad(refusal) => Listed::Refused(refusal),
     }
 }

@@ -16,12 +16,13 @@ use Rattle.answers.specs.Checks.{numberSaid, eachFrom, Passes}
 use Rattle.answers.specs.Refusals.{meaning, numberOf, printed}
 use Rattle.answers.specs.declared.Refusal.{Refusal}
 use Rattle.tables.proofs.Good.{places-to}
-use Rattle.tables.proofs.PlaceChecks.{passes-place}
+use Rattle.tables.proofs.PlaceChecks.{passes-book, passes-place}
 use Rattle.tables.proofs.Seven.{table-says-7, wrong-size-bad, room-tells}
+use Rattle.tables.specs.BookNumbers.{oneBook, onlyBook, GoodBooks, bookChecks}
 use Rattle.tables.specs.Table.{tableRoom, placesIn, tableChecks, checkSays, Good}
 use Rattle.rules.proofs.Blocks.{collected-then}
 use Rattle.rules.proofs.Grown.{grown-ready, grown-not-bad}
-use Rattle.rules.proofs.Pages.{page-size, whole-passes, look-numbered, look-passes, look-place}
+use Rattle.rules.proofs.Pages.{Sized, page-size, whole-passes, look-numbered, look-passes, look-place}
 use Rattle.rules.specs.Modes.{mending}
 use Rattle.rules.specs.Reading.{lookChecks}
 use Rattle.rules.specs.Taking.{cellCheckAt, grown}
@@ -48,52 +49,61 @@ module _ (t : List ℕ) where
   blocks-go-on : (p b : ℕ) → p < placesIn t → lineSpace ≤ b → (p < p + linesFit t p b) × (p + linesFit t p b ≤ placesIn t)
   blocks-go-on p b h room = (omega arith, omega arith)
 
-  one-block : (pg : List ℕ) (p b : ℕ) → linesFrom mending t pg 0 p ++ linesText mending t pg p b ≡ linesFrom mending t pg 0 (p + linesFit t p b)
-  one-block pg p b = sym (joined-then (lineAt mending t pg) 0 p (linesFit t p b) ∙ rw (zero-add p) refl)
+  one-block : (pg : List ℕ) (p b : ℕ) → linesFrom mending t pg onlyBook 0 p ++ linesText mending t pg onlyBook p b ≡ linesFrom mending t pg onlyBook 0 (p + linesFit t p b)
+  one-block pg p b = sym (joined-then (lineAt mending t pg onlyBook) 0 p (linesFit t p b) ∙ rw (zero-add p) refl)
 
   -- ---- a page that grew
   module _ (good : Good t) (xs : List (List ℕ)) where
-    none-bad : (p n : ℕ) → p + n ≤ placesIn t → Passes (eachFrom (cellCheckAt t (grown t xs)) p n)
-    none-bad p n to = passes-each (cellCheckAt t (grown t xs)) p n (λ j from below. grown-not-bad t good xs j (omega arith))
+    shared : GoodBooks t oneBook
+    shared = (refl, good)
 
-    counted : tallySays mending t (grown t xs) ≡ 0 ∷ tallyOf mending t (grown t xs)
+    with-book : Passes (bookChecks t oneBook onlyBook)
+    with-book = passes-book t oneBook onlyBook shared (lit< tt)
+
+    sized : Sized t oneBook (grown t oneBook xs)
+    sized = page-size t oneBook (grown t oneBook xs) (grown-ready t oneBook shared xs)
+
+    none-bad : (p n : ℕ) → p + n ≤ placesIn t → Passes (eachFrom (cellCheckAt t (grown t oneBook xs) onlyBook) p n)
+    none-bad p n to = passes-each (cellCheckAt t (grown t oneBook xs) onlyBook) p n (λ j from below. grown-not-bad t oneBook shared xs onlyBook j (lit< tt) (omega arith))
+
+    counted : tallySays mending t oneBook onlyBook (grown t oneBook xs) ≡ 0 ∷ tallyOf mending t (grown t oneBook xs) onlyBook
     counted =
-        let pg = grown t xs in
-        passes-says (0 ∷ tallyOf mending t pg) (tallyChecks mending t pg) (passes-then (wholeChecks mending t pg) (tallyRest t pg) (whole-passes mending t pg refl (grown-ready t good xs)) (none-bad 0 (placesIn t) (omega arith)))
+        let pg = grown t oneBook xs in
+        passes-says (0 ∷ tallyOf mending t pg onlyBook) (tallyChecks mending t oneBook onlyBook pg) (passes-then (wholeChecks mending t oneBook onlyBook pg) (tallyRest t pg onlyBook) (whole-passes mending t oneBook onlyBook pg refl with-book sized) (none-bad 0 (placesIn t) (omega arith)))
 
-    block-passes : (p b : ℕ) → p < placesIn t → lineSpace ≤ b → Passes (linesChecks mending t (grown t xs) p b)
+    block-passes : (p b : ℕ) → p < placesIn t → lineSpace ≤ b → Passes (linesChecks mending t oneBook onlyBook (grown t oneBook xs) p b)
     block-passes p b h room =
-        let pg = grown t xs in
-        let look = look-passes mending t pg p refl (passes-place t p good h) (page-size t pg (grown-ready t good xs)) in
-        passes-then (lookChecks mending t pg p) (linesRest t pg p b) look (le-ltb b lineSpace room, none-bad p (linesFit t p b) (blocks-go-on p b h room .1))
+        let pg = grown t oneBook xs in
+        let look = look-passes mending t oneBook onlyBook pg p refl (passes-place t oneBook onlyBook p with-book h) sized in
+        passes-then (lookChecks mending t oneBook onlyBook pg p) (linesRest t pg onlyBook p b) look (le-ltb b lineSpace room, none-bad p (linesFit t p b) (blocks-go-on p b h room .1))
 
     block-written : (p : ℕ) (held : List ℕ) → p < placesIn t → lineSpace ≤ length held
-        → (linesSays mending t (grown t xs) p held ≡ linesAnswer mending t (grown t xs) p (length held))
-        × (linesLeaves mending t (grown t xs) p held ≡ startingWith (linesText mending t (grown t xs) p (length held)) held)
+        → (linesSays mending t oneBook onlyBook (grown t oneBook xs) p held ≡ linesAnswer mending t (grown t oneBook xs) onlyBook p (length held))
+        × (linesLeaves mending t oneBook onlyBook (grown t oneBook xs) p held ≡ startingWith (linesText mending t (grown t oneBook xs) onlyBook p (length held)) held)
     block-written p held h room =
-        let pg = grown t xs in
+        let pg = grown t oneBook xs in
         let b = length held in
         let passes = block-passes p b h room in
-        (passes-says (linesAnswer mending t pg p b) (linesChecks mending t pg p b) passes, passes-leaves (startingWith (linesText mending t pg p b) held) held (linesChecks mending t pg p b) passes)
+        (passes-says (linesAnswer mending t pg onlyBook p b) (linesChecks mending t oneBook onlyBook pg p b) passes, passes-leaves (startingWith (linesText mending t pg onlyBook p b) held) held (linesChecks mending t oneBook onlyBook pg p b) passes)
 
   -- ---- a call that has written a block goes on, and stays among the 4,096 places
-  pub said-goes-on : (mode : ℕ) (pg held : List ℕ) (p to size : ℕ) → 0 ∷ to ∷ size ∷ [] ≡ linesSays mode t pg p held → (p < to) × (to ≤ 4096)
-  said-goes-on mode pg held p to size said =
+  pub said-goes-on : (mode books book : ℕ) (pg held : List ℕ) (p to size : ℕ) → 0 ∷ to ∷ size ∷ [] ≡ linesSays mode t books book pg p held → (p < to) × (to ≤ 4096)
+  said-goes-on mode books book pg held p to size said =
       let b = length held in
-      let cs = linesChecks mode t pg p b in
-      let rest : Numbered (linesRest t pg p b) = (lit< tt, each-numbered (cellCheckAt t pg) p (linesFit t p b) (λ j. lit< tt)) in
-      let passes = says-passes ((p + linesFit t p b) ∷ length (linesText mode t pg p b) ∷ []) (to ∷ size ∷ []) cs (numbered-then (lookChecks mode t pg p) (linesRest t pg p b) (look-numbered mode t pg p) rest) (sym said) in
-      let both = passes-apart (lookChecks mode t pg p) (linesRest t pg p b) passes in
-      let place = look-place mode t pg p (both .0) in
+      let cs = linesChecks mode t books book pg p b in
+      let rest : Numbered (linesRest t pg book p b) = (lit< tt, each-numbered (cellCheckAt t pg book) p (linesFit t p b) (λ j. lit< tt)) in
+      let passes = says-passes ((p + linesFit t p b) ∷ length (linesText mode t pg book p b) ∷ []) (to ∷ size ∷ []) cs (numbered-then (lookChecks mode t books book pg p) (linesRest t pg book p b) (look-numbered mode t books book pg p) rest) (sym said) in
+      let both = passes-apart (lookChecks mode t books book pg p) (linesRest t pg book p b) passes in
+      let place = look-place mode t books book pg p (both .0) in
       let on = blocks-go-on p b (place .1) (ltb-false b lineSpace (both .1 .0)) in
-      let same : to ≡ p + linesFit t p b = ap (λ (says : List ℕ). getD says 1 0) (said ∙ passes-says (linesAnswer mode t pg p b) cs passes) in
+      let same : to ≡ p + linesFit t p b = ap (λ (says : List ℕ). getD says 1 0) (said ∙ passes-says (linesAnswer mode t pg book p b) cs passes) in
       (omega (arith, on .0, same), omega (arith, on .1, same, places-to t (place .0)))
 
   pub steps : Steps t
   steps = record {
     bad-table = refused-7;
     enough-read = room-lists;
-    in-blocks = collected-then t;
+    in-blocks = collected-then t oneBook;
     grows = λ bytes. refl;
     lines-written = block-written;
     tallied = counted;

@@ -1,6 +1,7 @@
 -- What the calls of the report say, and what they leave in the lent buffer. A refusal is given as in docs/RULES.md,
 -- "Refusal numbers", the checks in the order in which reading a place has them. `mode` is the mode, t the table's
--- bytes, pg the page's, p the place from which lines are asked for, held what the lent buffer held; all of them any.
+-- bytes, `books` the number of books, `book` the book, pg the page's bytes, p the place from which lines are asked for,
+-- held what the lent buffer held; all of them any.
 use Prim.Native.Nat.{ℕ, _+_, _-_, _/_, min}
 use mathlib.Core.List.{List, [], _∷_, _++_}
 use lib.Dec.{ltb}
@@ -28,26 +29,28 @@ noRoom b = record { number = 4; values = []; fails = ltb b lineSpace }
 abbrev pub linesFit : List ℕ → ℕ → ℕ → ℕ
 linesFit t p b = min (placesIn t - p) (b / lineSpace)
 
--- 16, 7, 8, 4, 12: 12 for the places whose lines are written, with the lowest; first those after the page's
-abbrev pub linesRest : List ℕ → List ℕ → ℕ → ℕ → List Check
-linesRest t pg p b = noRoom b ∷ eachFrom (cellCheckAt t pg) p (linesFit t p b)
+-- 16, 17, 7, 8, 4, 12: 12 for the places of the book whose lines are written, with the lowest; first those after the
+-- page's
+abbrev pub linesRest : List ℕ → List ℕ → ℕ → ℕ → ℕ → List Check
+linesRest t pg book p b = noRoom b ∷ eachFrom (cellCheckAt t pg book) p (linesFit t p b)
 
-abbrev pub linesChecks : ℕ → List ℕ → List ℕ → ℕ → ℕ → List Check
-linesChecks mode t pg p b = lookChecks mode t pg p ++ linesRest t pg p b
+abbrev pub linesChecks : ℕ → List ℕ → ℕ → ℕ → List ℕ → ℕ → ℕ → List Check
+linesChecks mode t books book pg p b = lookChecks mode t books book pg p ++ linesRest t pg book p b
 
-abbrev pub linesText : ℕ → List ℕ → List ℕ → ℕ → ℕ → List ℕ
-linesText mode t pg p b = linesFrom mode t pg p (linesFit t p b)
+abbrev pub linesText : ℕ → List ℕ → List ℕ → ℕ → ℕ → ℕ → List ℕ
+linesText mode t pg book p b = linesFrom mode t pg book p (linesFit t p b)
 
-abbrev pub linesAnswer : ℕ → List ℕ → List ℕ → ℕ → ℕ → List ℕ
-linesAnswer mode t pg p b = 0 ∷ (p + linesFit t p b) ∷ length (linesText mode t pg p b) ∷ []
+abbrev pub linesAnswer : ℕ → List ℕ → List ℕ → ℕ → ℕ → ℕ → List ℕ
+linesAnswer mode t pg book p b = 0 ∷ (p + linesFit t p b) ∷ length (linesText mode t pg book p b) ∷ []
 
 -- what is said, and what is left
-abbrev pub linesSays : ℕ → List ℕ → List ℕ → ℕ → List ℕ → List ℕ
-linesSays mode t pg p held = firstOf (linesChecks mode t pg p (length held)) (linesAnswer mode t pg p (length held))
+abbrev pub linesSays : ℕ → List ℕ → ℕ → ℕ → List ℕ → ℕ → List ℕ → List ℕ
+linesSays mode t books book pg p held =
+    firstOf (linesChecks mode t books book pg p (length held)) (linesAnswer mode t pg book p (length held))
 
-abbrev pub linesLeaves : ℕ → List ℕ → List ℕ → ℕ → List ℕ → List ℕ
-linesLeaves mode t pg p held =
-    leaves (linesChecks mode t pg p (length held)) (startingWith (linesText mode t pg p (length held)) held) held
+abbrev pub linesLeaves : ℕ → List ℕ → ℕ → ℕ → List ℕ → ℕ → List ℕ → List ℕ
+linesLeaves mode t books book pg p held =
+    leaves (linesChecks mode t books book pg p (length held)) (startingWith (linesText mode t pg book p (length held)) held) held
 
 -- ---- one line, whose text is known
 abbrev pub lineSays : List ℕ → List ℕ → List ℕ

@@ -31,44 +31,44 @@ parts-then (suc n) xs ys e =
     refl
 
 -- arrivals one after the other, and how many were refused before
-module _ (t : List ℕ) where
-  after-then : (s : Received) (xs ys : List (List ℕ)) → after t s (xs ++ ys) ≡ after t (after t s xs) ys
+module _ (t : List ℕ) (books : ℕ) where
+  after-then : (s : Received) (xs ys : List (List ℕ)) → after t books s (xs ++ ys) ≡ after t books (after t books s xs) ys
   unfolding after
   after-then s [] ys = refl
-  after-then s (x ∷ xs) ys = after-then (arrive t s x) xs ys
+  after-then s (x ∷ xs) ys = after-then (arrive t books s x) xs ys
 
-  after-more : (pg : List ℕ) (m n : ℕ) (xs : List (List ℕ)) → after t (record { page = pg; refused = m + n }) xs
-      ≡ record { page = after t (record { page = pg; refused = n }) xs .page; refused = m + after t (record { page = pg; refused = n }) xs .refused }
+  after-more : (pg : List ℕ) (m n : ℕ) (xs : List (List ℕ)) → after t books (record { page = pg; refused = m + n }) xs
+      ≡ record { page = after t books (record { page = pg; refused = n }) xs .page; refused = m + after t books (record { page = pg; refused = n }) xs .refused }
   unfolding after arrive
   after-more pg m n [] = refl
   after-more pg m n (x ∷ xs) =
-      ap (λ (k : ℕ). after t (record { page = takeLeaves t pg x; refused = k }) xs) (add-assoc m n (refusals t pg x))
-      ∙ after-more (takeLeaves t pg x) m (n + refusals t pg x) xs
+      ap (λ (k : ℕ). after t books (record { page = takeLeaves t books pg x; refused = k }) xs) (add-assoc m n (refusals t books pg x))
+      ∙ after-more (takeLeaves t books pg x) m (n + refusals t books pg x) xs
 
   -- a run in two blocks, the first of whole records
-  pub collected-then : (pg xs ys : List ℕ) (n : ℕ) → length xs ≡ 8 * n → collected t pg (xs ++ ys) ≡ record {
-    page = collected t (collected t pg xs .page) ys .page;
-    refused = collected t pg xs .refused + collected t (collected t pg xs .page) ys .refused;
+  pub collected-then : (pg xs ys : List ℕ) (n : ℕ) → length xs ≡ 8 * n → collected t books pg (xs ++ ys) ≡ record {
+    page = collected t books (collected t books pg xs .page) ys .page;
+    refused = collected t books pg xs .refused + collected t books (collected t books pg xs .page) ys .refused;
   }
   collected-then pg xs ys n e =
-      ap (after t (record { page = pg; refused = 0 })) (parts-then n xs ys e)
+      ap (after t books (record { page = pg; refused = 0 })) (parts-then n xs ys e)
       ∙ after-then (record { page = pg; refused = 0 }) (partsOf xs) (partsOf ys)
-      ∙ ap (λ (k : ℕ). after t (record { page = collected t pg xs .page; refused = k }) (partsOf ys)) (sym (add-zero (collected t pg xs .refused)))
-      ∙ after-more (collected t pg xs .page) (collected t pg xs .refused) 0 (partsOf ys)
+      ∙ ap (λ (k : ℕ). after t books (record { page = collected t books pg xs .page; refused = k }) (partsOf ys)) (sym (add-zero (collected t books pg xs .refused)))
+      ∙ after-more (collected t books pg xs .page) (collected t books pg xs .refused) 0 (partsOf ys)
 
-  refusals-to : (pg x : List ℕ) → refusals t pg x ≤ 1
+  refusals-to : (pg x : List ℕ) → refusals t books pg x ≤ 1
   unfolding refusals
-  refusals-to pg x = go (anyOf (failsOf (takeChecks t pg x)))
+  refusals-to pg x = go (anyOf (failsOf (takeChecks t books pg x)))
     where
       go : (b : Bool) → pick b 1 0 ≤ 1
       go true = omega arith
       go false = omega arith
 
-  after-to : (s : Received) (xs : List (List ℕ)) → after t s xs .refused ≤ s .refused + length xs
+  after-to : (s : Received) (xs : List (List ℕ)) → after t books s xs .refused ≤ s .refused + length xs
   unfolding after arrive
   after-to s [] = omega arith
-  after-to s (x ∷ xs) = omega (arith, after-to (arrive t s x) xs, refusals-to (s .page) x)
+  after-to s (x ∷ xs) = omega (arith, after-to (arrive t books s x) xs, refusals-to (s .page) x)
 
   -- no more are refused than there are parts
-  pub collected-to : (pg bytes : List ℕ) → collected t pg bytes .refused ≤ (length bytes + 7) / 8
+  pub collected-to : (pg bytes : List ℕ) → collected t books pg bytes .refused ≤ (length bytes + 7) / 8
   collected-to pg bytes = omega (arith, after-to (record { page = pg; refused = 0 }) (partsOf bytes), parts-count bytes)

@@ -1,4 +1,4 @@
--- The page rule on one cell: two records of its place and row may come in either order, whatever stands in it.
+-- The page rule on one cell: two records of its book, place and row may come in either order, whatever stands in it.
 -- Refusal 12 keeps the cell, and a cell that is not refused is not refused afterwards.
 use Prim.Native.Nat.{ℕ, zero, suc}
 use mathlib.Core.Path.{_≡_, refl, ap, sym, _∙_}
@@ -54,40 +54,40 @@ takes-two x y c = go (c .state) refl
 
 -- ---- with refusal 12
 -- a cell that is not refused is not refused afterwards
-not-bad : (p r : ℕ) (x : List ℕ) (c : Cell) → isOf x p r ≡ true → badCell p r c ≡ false → badCell p r (takeCell x c) ≡ false
+not-bad : (book p r : ℕ) (x : List ℕ) (c : Cell) → isOf x book p r ≡ true → badCell book p r c ≡ false → badCell book p r (takeCell x c) ≡ false
 unfolding badCell
-not-bad p r x c own e = go (c .state) refl
+not-bad book p r x c own e = go (c .state) refl
   where
-    held : (b : Bool) → badCell p r (pick b c contestedCell) ≡ false
+    held : (b : Bool) → badCell book p r (pick b c contestedCell) ≡ false
     held true = e
     held false = refl
 
-    go : (n : ℕ) → c .state ≡ n → badCell p r (takeCell x c) ≡ false
+    go : (n : ℕ) → c .state ≡ n → badCell book p r (takeCell x c) ≡ false
     go zero s = rw (takes-empty x c s) (ap (λ (b : Bool). anyOf (not b ∷ [])) own)
     go (suc zero) s = rw (takes-held x c s) (held (sameBytes (c .bytes) x))
     go (suc (suc n)) s = rw (takes-contested x c n s) e
 
-module _ (p r : ℕ) (x : List ℕ) (c : Cell) (own : isOf x p r ≡ true) where
-  pub bad-stays : badCell p r (arriveCell p r x c) ≡ badCell p r c
-  bad-stays = go (badCell p r c) refl
+module _ (book p r : ℕ) (x : List ℕ) (c : Cell) (own : isOf x book p r ≡ true) where
+  pub bad-stays : badCell book p r (arriveCell book p r x c) ≡ badCell book p r c
+  bad-stays = go (badCell book p r c) refl
     where
-      go : (b : Bool) → badCell p r c ≡ b → badCell p r (pick b c (takeCell x c)) ≡ badCell p r c
+      go : (b : Bool) → badCell book p r c ≡ b → badCell book p r (pick b c (takeCell x c)) ≡ badCell book p r c
       go true e = refl
-      go false e = not-bad p r x c own e ∙ sym e
+      go false e = not-bad book p r x c own e ∙ sym e
 
--- records of place p and row r, in either order
-pub arrives-two : (p r : ℕ) (x y : List ℕ) (c : Cell) → isOf x p r ≡ true → isOf y p r ≡ true
-    → arriveCell p r x (arriveCell p r y c) ≡ arriveCell p r y (arriveCell p r x c)
-arrives-two p r x y c of-x of-y = go (badCell p r c) refl
+-- records of place p in the book and of row r, in either order
+pub arrives-two : (book p r : ℕ) (x y : List ℕ) (c : Cell) → isOf x book p r ≡ true → isOf y book p r ≡ true
+    → arriveCell book p r x (arriveCell book p r y c) ≡ arriveCell book p r y (arriveCell book p r x c)
+arrives-two book p r x y c of-x of-y = go (badCell book p r c) refl
   where
-    go : (b : Bool) → badCell p r c ≡ b → arriveCell p r x (pick b c (takeCell y c)) ≡ arriveCell p r y (pick b c (takeCell x c))
+    go : (b : Bool) → badCell book p r c ≡ b → arriveCell book p r x (pick b c (takeCell y c)) ≡ arriveCell book p r y (pick b c (takeCell x c))
     go true e = rw e refl
-    go false e = rw (not-bad p r x c of-x e, not-bad p r y c of-y e) (takes-two x y c)
+    go false e = rw (not-bad book p r x c of-x e, not-bad book p r y c of-y e) (takes-two x y c)
 
 -- ---- a record of 8 bytes keeps the cell a cell
-pub length-arrives : (p r : ℕ) (x : List ℕ) (c : Cell) → length x ≡ recordLength → length (c .bytes) ≡ recordLength
-    → length (arriveCell p r x c .bytes) ≡ recordLength
-length-arrives p r x c eight eight-held = go (badCell p r c)
+pub length-arrives : (book p r : ℕ) (x : List ℕ) (c : Cell) → length x ≡ recordLength → length (c .bytes) ≡ recordLength
+    → length (arriveCell book p r x c .bytes) ≡ recordLength
+length-arrives book p r x c eight eight-held = go (badCell book p r c)
   where
     held : (b : Bool) → length (pick b c contestedCell .bytes) ≡ recordLength
     held true = eight-held

@@ -81,5 +81,5 @@ module _ (f : ℕ → ℕ) where
       ap sumOf (sym (counts-next n (f n) refl (below n))) ∙ one-more (countsOf f n) (f n) (below n) ∙ ap suc (counts-sum n below)
 
 -- the five answers share out the places among them
-pub tally-sum : (mode : ℕ) (t pg : List ℕ) → sumOf (tallyOf mode t pg) ≡ placesIn t
-tally-sum mode t pg = counts-sum (answerAt mode t pg) (placesIn t) (λ p. five-answers (judgeAt mode t pg p))
+pub tally-sum : (mode : ℕ) (t pg : List ℕ) (book : ℕ) → sumOf (tallyOf mode t pg book) ≡ placesIn t
+tally-sum mode t pg book = counts-sum (answerAt mode t pg book) (placesIn t) (λ p. five-answers (judgeAt mode t pg book p))

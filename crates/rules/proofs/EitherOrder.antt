@@ -1,4 +1,5 @@
--- Two arrivals, in either order, on any table and any page: the page and the number of refused takes are the same.
+-- Two arrivals, in either order, on any table, with any number of books, and on any page: the page and the number of
+-- refused takes are the same.
 use Prim.Native.Nat.{ℕ}
 use mathlib.Core.Path.{_≡_, refl, ap₂}
 use mathlib.Core.List.{List}
@@ -13,14 +14,14 @@ use Rattle.rules.proofs.Pages.{ready-or-shut}
 abbrev received : List ℕ → ℕ → Received
 received page refused = record { page = page; refused = refused }
 
-module _ (t : List ℕ) (s : Received) (x y : List ℕ) where
-  pub arrive-two : arrive t (arrive t s x) y ≡ arrive t (arrive t s y) x
+module _ (t : List ℕ) (books : ℕ) (s : Received) (x y : List ℕ) where
+  pub arrive-two : arrive t books (arrive t books s x) y ≡ arrive t books (arrive t books s y) x
   unfolding arrive
-  arrive-two = go (ready-or-shut t (s .page))
+  arrive-two = go (ready-or-shut t books (s .page))
     where
-      go : Passes (pageChecks t (s .page)) ⊎ (anyOf (failsOf (pageChecks t (s .page))) ≡ true) → arrive t (arrive t s x) y ≡ arrive t (arrive t s y) x
+      go : Passes (pageChecks t books (s .page)) ⊎ (anyOf (failsOf (pageChecks t books (s .page))) ≡ true) → arrive t books (arrive t books s x) y ≡ arrive t books (arrive t books s y) x
       go (inl ready) =
-          ap₂ received (pages-two t (s .page) ready x y)
-          (rw (refusals-unmoved t (s .page) ready y x, refusals-unmoved t (s .page) ready x y) (omega arith))
+          ap₂ received (pages-two t books (s .page) ready x y)
+          (rw (refusals-unmoved t books (s .page) ready y x, refusals-unmoved t books (s .page) ready x y) (omega arith))
       go (inr shut) =
-          rw (shut-leaves t (s .page) shut x, shut-leaves t (s .page) shut y, shut-leaves t (s .page) shut x, shut-refusals t (s .page) shut x, shut-refusals t (s .page) shut y) refl
+          rw (shut-leaves t books (s .page) shut x, shut-leaves t books (s .page) shut y, shut-leaves t books (s .page) shut x, shut-refusals t books (s .page) shut x, shut-refusals t books (s .page) shut y) refl

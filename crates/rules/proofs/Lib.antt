@@ -1,5 +1,6 @@
 pub mod Example
 pub mod ModesExample
+pub mod BooksExample
 pub mod CellAfter
 pub mod CellRule
 pub mod Arrivals

@@ -34,13 +34,13 @@ parts-count bytes = go ((length bytes + 7) / 8) bytes
 abbrev refusedOnly : Received → ℕ → Received
 refusedOnly s n = record { page = s .page; refused = s .refused + n }
 
-pub shut-after : (t : List ℕ) (s : Received) (xs : List (List ℕ)) → anyOf (failsOf (pageChecks t (s .page))) ≡ true
-    → after t s xs ≡ refusedOnly s (length xs)
+pub shut-after : (t : List ℕ) (books : ℕ) (s : Received) (xs : List (List ℕ)) → anyOf (failsOf (pageChecks t books (s .page))) ≡ true
+    → after t books s xs ≡ refusedOnly s (length xs)
 unfolding after arrive
-shut-after t s [] shut = ap (λ (n : ℕ). record { page = s .page; refused = n }) (sym (add-zero (s .refused)))
-shut-after t s (x ∷ xs) shut =
-    ap (λ (u : Received). after t u xs) (ap₂ (λ (page : List ℕ) (n : ℕ). record { page = page; refused = s .refused + n }) (shut-leaves t (s .page) shut x) (shut-refusals t (s .page) shut x))
-    ∙ shut-after t (refusedOnly s 1) xs shut
+shut-after t books s [] shut = ap (λ (n : ℕ). record { page = s .page; refused = n }) (sym (add-zero (s .refused)))
+shut-after t books s (x ∷ xs) shut =
+    ap (λ (u : Received). after t books u xs) (ap₂ (λ (page : List ℕ) (n : ℕ). record { page = page; refused = s .refused + n }) (shut-leaves t books (s .page) shut x) (shut-refusals t books (s .page) shut x))
+    ∙ shut-after t books (refusedOnly s 1) xs shut
     ∙ ap (λ (n : ℕ). record { page = s .page; refused = n }) (one-more (s .refused) (length xs))
   where
     one-more : (m n : ℕ) → m + 1 + n ≡ m + suc n

@@ -15,9 +15,9 @@ use Rattle.tables.specs.Row.{lengthOf, radiiOf, radiusAt, enumerationOf, shellT
 use Rattle.tables.specs.Table.{rowFor}
 use Rattle.tables.specs.Usable.{IsUsable}
 use Rattle.records.specs.Record.{radiusNumberIn, codewordIn}
-use Rattle.layout.specs.Layout.{Cell, cellAt}
+use Rattle.layout.specs.Layout.{Cell}
 use Rattle.rules.specs.Modes.{isPlain}
-use Rattle.rules.specs.Taking.{byState}
+use Rattle.rules.specs.Taking.{byState, cellFor}
 use Rattle.rules.specs.declared.Judged.{Judged}
 use Rattle.rules.specs.declared.Judged.the-variants as judged
 use Rattle.rules.specs.declared.Reason.{Reason}
@@ -62,9 +62,9 @@ judgeRecord mode row y =
 unfoldable pub judge : ℕ → List ℕ → Cell → Judged
 judge mode row c = byState (c .state) judged.Missing (judgeRecord mode row (c .bytes)) judged.Contested
 
--- of a place p of a page
-abbrev pub judgeAt : ℕ → List ℕ → List ℕ → ℕ → Judged
-judgeAt mode t pg p = judge mode (rowFor t p) (cellAt pg p)
+-- of a place p in a book of a page
+abbrev pub judgeAt : ℕ → List ℕ → List ℕ → ℕ → ℕ → Judged
+judgeAt mode t pg book p = judge mode (rowFor t p) (cellFor t pg book p)
 
 -- the five answers, numbered in the order in which the tally counts them
 abbrev pub answerNumber : Judged → ℕ

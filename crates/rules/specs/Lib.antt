@@ -6,3 +6,4 @@ pub mod Reading
 pub mod Tallying
 pub mod Example
 pub mod ModesExample
+pub mod BooksExample

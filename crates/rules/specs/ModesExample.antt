@@ -55,30 +55,30 @@ pub record ModesExample : Type 0 where
   pub told-15 : toldFor reason.EmptyShape ≡ 0 ∷ 4 ∷ 15 ∷ []
   pub field-6 : reasonOrDistance (pastEnd 2) ≡ 6
   -- read and coefficient in plain mode: sound as in mending, and zeros and no value past the end
-  pub plain-sound : readSays plain wholeCase page 0 nines ≡ 0 ∷ 0 ∷ 0 ∷ []
-  pub plain-point : readLeaves plain wholeCase page 0 nines ≡ readLeaves mending wholeCase page 0 zeros
-  pub plain-says : readSays plain wholeCase past 1 nines ≡ 0 ∷ 4 ∷ 6 ∷ 2 ∷ []
-  pub plain-leaves : readLeaves plain wholeCase past 1 nines ≡ zeros
-  pub plain-value-says : coefficientSays plain wholeCase past 1 0 ≡ 0 ∷ 4 ∷ 6 ∷ 2 ∷ []
-  pub plain-carries : coefficientCarries plain wholeCase past 1 0 ≡ []
-  pub plain-value : map (toBits binary32) (coefficientCarries plain wholeCase page 0 2) ≡ 3212836864 ∷ []
-  pub plain-contested : readSays plain wholeCase damaged 0 nines ≡ 0 ∷ 3 ∷ 0 ∷ []
-  pub plain-missing : readSays plain wholeCase (replicate 18 0) 0 nines ≡ 0 ∷ 2 ∷ 0 ∷ []
+  pub plain-sound : readSays plain wholeCase 1 0 page 0 nines ≡ 0 ∷ 0 ∷ 0 ∷ []
+  pub plain-point : readLeaves plain wholeCase 1 0 page 0 nines ≡ readLeaves mending wholeCase 1 0 page 0 zeros
+  pub plain-says : readSays plain wholeCase 1 0 past 1 nines ≡ 0 ∷ 4 ∷ 6 ∷ 2 ∷ []
+  pub plain-leaves : readLeaves plain wholeCase 1 0 past 1 nines ≡ zeros
+  pub plain-value-says : coefficientSays plain wholeCase 1 0 past 1 0 ≡ 0 ∷ 4 ∷ 6 ∷ 2 ∷ []
+  pub plain-carries : coefficientCarries plain wholeCase 1 0 past 1 0 ≡ []
+  pub plain-value : map (toBits binary32) (coefficientCarries plain wholeCase 1 0 page 0 2) ≡ 3212836864 ∷ []
+  pub plain-contested : readSays plain wholeCase 1 0 damaged 0 nines ≡ 0 ∷ 3 ∷ 0 ∷ []
+  pub plain-missing : readSays plain wholeCase 1 0 (replicate 18 0) 0 nines ≡ 0 ∷ 2 ∷ 0 ∷ []
   -- the tally: the four that are mended in the other mode are unreadable
-  pub plain-tally : tallySays plain wholeCase page ≡ 0 ∷ 1 ∷ 0 ∷ 0 ∷ 0 ∷ 1 ∷ []
-  pub plain-mixed : tallySays plain (ofPlaces 0 15) mixed ≡ 0 ∷ 5 ∷ 0 ∷ 3 ∷ 2 ∷ 5 ∷ []
+  pub plain-tally : tallySays plain wholeCase 1 0 page ≡ 0 ∷ 1 ∷ 0 ∷ 0 ∷ 0 ∷ 1 ∷ []
+  pub plain-mixed : tallySays plain (ofPlaces 0 15) 1 0 mixed ≡ 0 ∷ 5 ∷ 0 ∷ 3 ∷ 2 ∷ 5 ∷ []
   -- 16 before every other refusal; it leaves the buffer and carries no value
-  pub read-16 : readSays 2 badTable (take 17 page) 2 [] ≡ 16 ∷ []
-  pub read-16-leaves : readLeaves 2 wholeCase page 0 nines ≡ nines
-  pub coefficient-16 : coefficientSays 255 badTable (take 17 page) 2 3 ≡ 16 ∷ []
-  pub coefficient-16-carries : coefficientCarries 2 wholeCase page 0 0 ≡ []
-  pub tally-16 : tallySays 3 badTable (take 17 page) ≡ 16 ∷ []
-  pub tally-16-12 : tallySays 256 wholeCase second-twice ≡ 16 ∷ []
+  pub read-16 : readSays 2 badTable 1 0 (take 17 page) 2 [] ≡ 16 ∷ []
+  pub read-16-leaves : readLeaves 2 wholeCase 1 0 page 0 nines ≡ nines
+  pub coefficient-16 : coefficientSays 255 badTable 1 0 (take 17 page) 2 3 ≡ 16 ∷ []
+  pub coefficient-16-carries : coefficientCarries 2 wholeCase 1 0 page 0 0 ≡ []
+  pub tally-16 : tallySays 3 badTable 1 0 (take 17 page) ≡ 16 ∷ []
+  pub tally-16-12 : tallySays 256 wholeCase 1 0 second-twice ≡ 16 ∷ []
   pub modes : map noSuchMode (0 ∷ 1 ∷ 2 ∷ 256 ∷ 4294967296 ∷ 18446744073709551615 ∷ [])
       ≡ false ∷ false ∷ true ∷ true ∷ true ∷ true ∷ []
   -- then 7, and 12 last
-  pub plain-7 : readSays plain badTable (take 17 page) 2 [] ≡ 7 ∷ 0 ∷ []
-  pub plain-12 : readSays plain wholeCase second-twice 0 zeros ≡ 12 ∷ []
+  pub plain-7 : readSays plain badTable 1 0 (take 17 page) 2 [] ≡ 7 ∷ 0 ∷ []
+  pub plain-12 : readSays plain wholeCase 1 0 second-twice 0 zeros ≡ 12 ∷ []
   -- what overflows: from the total to 2^b - 1, at a radius number of the row, which the same row with one radius has
   -- not, in a held record
   pub overflow-17 : overflows wholeCase (held (of 0 0 1 17)) ≡ false

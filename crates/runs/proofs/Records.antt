@@ -12,9 +12,9 @@ use Rattle.coding.specs.Coded.{radiusNumberFor, codewordFor}
 use Rattle.runs.specs.Run.{vectorFor}
 use Rattle.runs.specs.Sending.{recordsLength, recordAt, recordsOf}
 
-module _ (t : List ℕ) (run : List Float) where
-  pub record-eight : (p : ℕ) → length (recordAt t run p) ≡ recordLength
-  record-eight p = record-length p (rowOf t p) (radiusNumberFor (rowFor t p) (vectorFor t run p)) (codewordFor (rowFor t p) (vectorFor t run p))
+module _ (t : List ℕ) (book : ℕ) (run : List Float) where
+  pub record-eight : (p : ℕ) → length (recordAt t book run p) ≡ recordLength
+  record-eight p = record-length book p (rowOf t p) (radiusNumberFor (rowFor t p) (vectorFor t run p)) (codewordFor (rowFor t p) (vectorFor t run p))
 
-  pub records-length : length (recordsOf t run) ≡ recordsLength t
-  records-length = joined-length (recordAt t run) recordLength record-eight 0 (placesIn t)
+  pub records-length : length (recordsOf t book run) ≡ recordsLength t
+  records-length = joined-length (recordAt t book run) recordLength record-eight 0 (placesIn t)

@@ -56,21 +56,31 @@ pub record Example : Type 0 where
   pub second-vector : vectorFor table run 1 ≡ second
   pub last-vector : vectorFor table run 2 ≡ pair
   -- the records, in place order: place, row, radius number, codeword
-  pub says : sendSays table run (lent 24) ≡ 0 ∷ []
-  pub leaves-all : sendLeaves table run (lent 24)
+  pub says : sendSays table 1 0 run (lent 24) ≡ 0 ∷ []
+  pub leaves-all : sendLeaves table 1 0 run (lent 24)
       ≡ 0 ∷ 0 ∷ 0 ∷ 1 ∷ 0 ∷ 0 ∷ 0 ∷ 5 ∷ 0 ∷ 1 ∷ 0 ∷ 1 ∷ 0 ∷ 0 ∷ 0 ∷ 13 ∷ 0 ∷ 2 ∷ 1 ∷ 1 ∷ 0 ∷ 0 ∷ 0 ∷ 5 ∷ []
+  -- the same for book 9 of 10: each place field has the book in its upper four bits
+  pub book-9-says : sendSays table 10 9 run (lent 24) ≡ 0 ∷ []
+  pub book-9-leaves : sendLeaves table 10 9 run (lent 24)
+      ≡ 0x90 ∷ 0 ∷ 0 ∷ 1 ∷ 0 ∷ 0 ∷ 0 ∷ 5 ∷ 0x90 ∷ 1 ∷ 0 ∷ 1 ∷ 0 ∷ 0 ∷ 0 ∷ 13 ∷ 0x90 ∷ 2 ∷ 1 ∷ 1 ∷ 0 ∷ 0 ∷ 0 ∷ 5 ∷ []
+  -- 17 before 7, 7 before 8, 8 before 4, with two faults at once; a book equal to the number of books
+  pub no-books : sendSays [] 0 0 [] [] ≡ 17 ∷ []
+  pub books-17 : sendSays table 17 17 run (lent 24) ≡ 17 ∷ []
+  pub table-first : sendSays [] 2 2 run (lent 24) ≡ 7 ∷ 0 ∷ []
+  pub no-book : sendSays table 9 9 (take 7 run) (lent 24) ≡ 8 ∷ []
+  pub no-book-leaves : sendLeaves table 9 9 run (lent 24) ≡ lent 24
   -- 7 before 4, 4 before 11, with two faults at once
-  pub bad-row : sendSays (wholeCase ++ drop 1 shortRow ++ 0 ∷ []) [] [] ≡ 7 ∷ 1 ∷ []
-  pub run-short : sendSays table (take 7 bad) (lent 24) ≡ 4 ∷ []
-  pub run-long : sendSays table (bad ++ pair) (lent 24) ≡ 4 ∷ []
-  pub buffer-short : sendSays table bad (lent 23) ≡ 4 ∷ []
-  pub buffer-long : sendSays table bad (lent 25) ≡ 4 ∷ []
-  pub no-buffer : sendSays table run [] ≡ 4 ∷ []
+  pub bad-row : sendSays (wholeCase ++ drop 1 shortRow ++ 0 ∷ []) 1 0 [] [] ≡ 7 ∷ 1 ∷ []
+  pub run-short : sendSays table 1 0 (take 7 bad) (lent 24) ≡ 4 ∷ []
+  pub run-long : sendSays table 1 0 (bad ++ pair) (lent 24) ≡ 4 ∷ []
+  pub buffer-short : sendSays table 1 0 bad (lent 23) ≡ 4 ∷ []
+  pub buffer-long : sendSays table 1 0 bad (lent 25) ≡ 4 ∷ []
+  pub no-buffer : sendSays table 1 0 run [] ≡ 4 ∷ []
   -- 11: the lowest place, then its lowest coordinate
-  pub lowest : sendSays table bad (lent 24) ≡ 11 ∷ 1 ∷ 2 ∷ []
-  pub last-place : sendSays table (take 7 run ++ nan ∷ []) (lent 24) ≡ 11 ∷ 2 ∷ 1 ∷ []
+  pub lowest : sendSays table 1 0 bad (lent 24) ≡ 11 ∷ 1 ∷ 2 ∷ []
+  pub last-place : sendSays table 1 0 (take 7 run ++ nan ∷ []) (lent 24) ≡ 11 ∷ 2 ∷ 1 ∷ []
   -- a refusal leaves the buffer
-  pub kept : sendLeaves table (take 7 run ++ nan ∷ []) (lent 24) ≡ lent 24
+  pub kept : sendLeaves table 1 0 (take 7 run ++ nan ∷ []) (lent 24) ≡ lent 24
   -- the runs of files; of no file, or an empty one; one byte missing, and one too many: no run
   pub three-read : runOf three ≡ vector
   pub unusable-read : runOf unusable ≡ nan ∷ inf true ∷ []

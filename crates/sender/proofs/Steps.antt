@@ -13,12 +13,14 @@ use lib.Ieee.{Float}
 use lib.ListN.{length, take, replicate, length-replicate}
 use lib.Seq.{take-all, length-take-le}
 use Rattle.answers.proofs.InOrder.{numbered-then, says-passes, passes-leaves, passes-fails, fails-then, refusal-fails, refused-says, passed-says, passed-leaves}
-use Rattle.answers.specs.Checks.{Check, firstOf, leaves, eachFrom, pick, anyOf, failsOf, wrongLength}
+use Rattle.answers.specs.Checks.{Check, firstOf, leaves, eachFrom, pick, anyOf, failsOf, wrongLength, Passes}
 use Rattle.answers.specs.Refusals.{meaning, printed}
 use Rattle.answers.specs.declared.Refusal.{Refusal}
 use Rattle.tables.proofs.Good.{good-place}
-use Rattle.tables.proofs.Seven.{table-numbered, room-tells}
+use Rattle.tables.proofs.PlaceChecks.{book-numbered, passes-book}
+use Rattle.tables.proofs.Seven.{room-tells}
 use Rattle.tables.proofs.Walking.{first-place}
+use Rattle.tables.specs.BookNumbers.{oneBook, onlyBook, bookCheck, bookChecks}
 use Rattle.tables.specs.Table.{rowsOf, wrongSize, tableRoom, placesIn, rowCheck, tableChecks, checkSays, Good}
 use Rattle.wording.specs.Text.{refusedText}
 use Rattle.runs.proofs.Judging.{run-numbered}
@@ -30,6 +32,10 @@ use Rattle.sender.specs.Prints.{senderSays, senderPrints}
 use Rattle.sender.specs.Steps.{Steps}
 use Rattle.sender.proofs.Run.{too-long}
 use Rattle.sender.proofs.Named.{Eleven, run-names}
+
+-- the checks of the table and its one book
+abbrev opening : List ℕ → List Check
+opening t = bookChecks t oneBook onlyBook
 
 -- ---- a table of wrong size: 7 with row 0, whatever is checked behind its size
 module _ (t : List ℕ) (wrong : wrongSize (length t) ≡ true) (cs : List Check) where
@@ -47,7 +53,7 @@ module _ (t : List ℕ) (wrong : wrongSize (length t) ≡ true) (cs : List Check
 
 -- ---- what the program prints: the line of a refusal, or nothing
 module _ (t bytes : List ℕ) where
-  prints-line : {says : List ℕ} → says ≡ senderSays t bytes → anyOf (failsOf (sendChecks t (runOf bytes) (recordsLength t))) ≡ true
+  prints-line : {says : List ℕ} → says ≡ senderSays t bytes → anyOf (failsOf (sendChecks t oneBook onlyBook (runOf bytes) (recordsLength t))) ≡ true
       → refusedText (printed says) ≡ senderPrints t bytes
   prints-line same fails =
       ap (λ (says : List ℕ). refusedText (printed says)) same ∙ sym (ap (λ (b : Bool). pick b (refusedText (printed (senderSays t bytes))) []) fails)
@@ -55,35 +61,39 @@ module _ (t bytes : List ℕ) where
   prints-wrong : wrongSize (length t) ≡ true → refusedText (7 ∷ []) ≡ senderPrints t bytes
   prints-wrong wrong =
       let run = runOf bytes in
-      let behind : ℕ → List Check = λ b. eachFrom (rowCheck t) 0 (rowsOf t) ++ sendRest t run b in
+      let behind : ℕ → List Check = λ b. eachFrom (rowCheck t) 0 (rowsOf t) ++ (bookCheck oneBook onlyBook ∷ []) ++ sendRest t run b in
       prints-line (sym (wrong-says t wrong (behind (length (replicate (recordsLength t) 0))) (0 ∷ []))) (wrong-fails t wrong (behind (recordsLength t)))
 
   prints-checked : (r : Refusal) → meaning r ≡ checkSays t → refusedText (printed (meaning r)) ≡ senderPrints t bytes
   prints-checked r says =
       let rest : ℕ → List Check = sendRest t (runOf bytes) in
-      let fails = refusal-fails (placesIn t ∷ []) (tableChecks t) r says in
-      prints-line (refused-says (tableChecks t) (rest (length (replicate (recordsLength t) 0))) (placesIn t ∷ []) (0 ∷ []) r says)
-      (fails-then (tableChecks t) (rest (recordsLength t)) ∙ ap (λ (b : Bool). b || anyOf (failsOf (rest (recordsLength t)))) fails)
+      let told = refused-says (tableChecks t) (bookCheck oneBook onlyBook ∷ []) (placesIn t ∷ []) (0 ∷ placesIn t ∷ []) r says in
+      let fails = refusal-fails (placesIn t ∷ []) (opening t) r told in
+      prints-line (refused-says (opening t) (rest (length (replicate (recordsLength t) 0))) (placesIn t ∷ []) (0 ∷ []) r told)
+      (fails-then (opening t) (rest (recordsLength t)) ∙ ap (λ (b : Bool). b || anyOf (failsOf (rest (recordsLength t)))) fails)
 
   -- of a lent buffer only the length counts
   module _ (held : List ℕ) (room : length held ≡ recordsLength t) where
-    prints-refused : (r : Refusal) → meaning r ≡ sendSays t (runOf bytes) held → refusedText (printed (meaning r)) ≡ senderPrints t bytes
+    prints-refused : (r : Refusal) → meaning r ≡ sendSays t oneBook onlyBook (runOf bytes) held → refusedText (printed (meaning r)) ≡ senderPrints t bytes
     prints-refused r says =
         let run = runOf bytes in
-        prints-line (says ∙ ap (λ (b : ℕ). firstOf (sendChecks t run b) (0 ∷ [])) (room ∙ sym (length-replicate (recordsLength t) 0)))
-        (ap (λ (b : ℕ). anyOf (failsOf (sendChecks t run b))) (sym room) ∙ refusal-fails [] (sendChecks t run (length held)) r says)
+        prints-line (says ∙ ap (λ (b : ℕ). firstOf (sendChecks t oneBook onlyBook run b) (0 ∷ [])) (room ∙ sym (length-replicate (recordsLength t) 0)))
+        (ap (λ (b : ℕ). anyOf (failsOf (sendChecks t oneBook onlyBook run b))) (sym room) ∙ refusal-fails [] (sendChecks t oneBook onlyBook run (length held)) r says)
 
-    writes : 0 ∷ [] ≡ sendSays t (runOf bytes) held → (sendLeaves t (runOf bytes) held ≡ recordsOf t (runOf bytes)) × (senderPrints t bytes ≡ [])
+    writes : 0 ∷ [] ≡ sendSays t oneBook onlyBook (runOf bytes) held → (sendLeaves t oneBook onlyBook (runOf bytes) held ≡ recordsOf t onlyBook (runOf bytes)) × (senderPrints t bytes ≡ [])
     writes says =
         let run = runOf bytes in
-        let cs = sendChecks t run (length held) in
-        let numbered = numbered-then (tableChecks t) (sendRest t run (length held)) (table-numbered t) (lit< tt, (lit< tt, run-numbered t run)) in
+        let cs = sendChecks t oneBook onlyBook run (length held) in
+        let numbered = numbered-then (opening t) (sendRest t run (length held)) (book-numbered t oneBook onlyBook) (lit< tt, (lit< tt, run-numbered t run)) in
         let passes = says-passes [] [] cs numbered (sym says) in
-        let none : anyOf (failsOf (sendChecks t run (recordsLength t))) ≡ false = ap (λ (b : ℕ). anyOf (failsOf (sendChecks t run b))) (sym room) ∙ passes-fails cs passes in
-        (passes-leaves (recordsOf t run) held cs passes, ap (λ (b : Bool). pick b (refusedText (printed (senderSays t bytes))) []) none)
+        let none : anyOf (failsOf (sendChecks t oneBook onlyBook run (recordsLength t))) ≡ false = ap (λ (b : ℕ). anyOf (failsOf (sendChecks t oneBook onlyBook run b))) (sym room) ∙ passes-fails cs passes in
+        (passes-leaves (recordsOf t onlyBook run) held cs passes, ap (λ (b : Bool). pick b (refusedText (printed (senderSays t bytes))) []) none)
 
 -- ---- a good table
 module _ (t : List ℕ) (good : Good t) where
+  opened : Passes (opening t)
+  opened = passes-book t oneBook onlyBook (refl, good) (lit< tt)
+
   -- it has a coordinate at the least, and 65,536 at the most
   some-coordinates : 0 < coordinatesIn t
   some-coordinates = let first = first-place t good in omega (arith, ends-within t 0 first, good-place t 0 good first .1 .length-from)
@@ -93,25 +103,25 @@ module _ (t : List ℕ) (good : Good t) where
 
   -- a run of another length is refused 4, and leaves the buffer
   wrong-run : (run : List Float) (held : List ℕ) → wrongLength (length run) (coordinatesIn t) ≡ true
-      → (4 ∷ [] ≡ sendSays t run held) × (held ≡ sendLeaves t run held)
+      → (4 ∷ [] ≡ sendSays t oneBook onlyBook run held) × (held ≡ sendLeaves t oneBook onlyBook run held)
   wrong-run run held wrong =
       let rest = sendRest t run (length held) in
       let four : firstOf rest (0 ∷ []) ≡ 4 ∷ [] = rw wrong refl in
-      let kept : leaves rest (recordsOf t run) held ≡ held = rw wrong refl in
-      (sym four ∙ passed-says (tableChecks t) rest (0 ∷ []) good, sym kept ∙ passed-leaves (tableChecks t) rest (recordsOf t run) held good)
+      let kept : leaves rest (recordsOf t onlyBook run) held ≡ held = rw wrong refl in
+      (sym four ∙ passed-says (opening t) rest (0 ∷ []) opened, sym kept ∙ passed-leaves (opening t) rest (recordsOf t onlyBook run) held opened)
 
   -- what is too long for the room is refused 4 either way
   enough : (bytes held : List ℕ)
-      → (sendSays t (runOf (take runRoom bytes)) held ≡ sendSays t (runOf bytes) held)
-      × (sendLeaves t (runOf (take runRoom bytes)) held ≡ sendLeaves t (runOf bytes) held)
+      → (sendSays t oneBook onlyBook (runOf (take runRoom bytes)) held ≡ sendSays t oneBook onlyBook (runOf bytes) held)
+      × (sendLeaves t oneBook onlyBook (runOf (take runRoom bytes)) held ≡ sendLeaves t oneBook onlyBook (runOf bytes) held)
   enough bytes held = go (decLe (length bytes) runRoom)
     where
       go : Dec (length bytes ≤ runRoom)
-          → (sendSays t (runOf (take runRoom bytes)) held ≡ sendSays t (runOf bytes) held)
-          × (sendLeaves t (runOf (take runRoom bytes)) held ≡ sendLeaves t (runOf bytes) held)
+          → (sendSays t oneBook onlyBook (runOf (take runRoom bytes)) held ≡ sendSays t oneBook onlyBook (runOf bytes) held)
+          × (sendLeaves t oneBook onlyBook (runOf (take runRoom bytes)) held ≡ sendLeaves t oneBook onlyBook (runOf bytes) held)
       go (yes all) =
           let same = take-all runRoom bytes all in
-          (ap (λ (part : List ℕ). sendSays t (runOf part) held) same, ap (λ (part : List ℕ). sendLeaves t (runOf part) held) same)
+          (ap (λ (part : List ℕ). sendSays t oneBook onlyBook (runOf part) held) same, ap (λ (part : List ℕ). sendLeaves t oneBook onlyBook (runOf part) held) same)
       go (no long) =
           let n = coordinatesIn t in
           let cut : runRoom ≤ length (take runRoom bytes) = le-of-eq (sym (length-take-le runRoom bytes (omega arith))) in
@@ -120,7 +130,7 @@ module _ (t : List ℕ) (good : Good t) where
           (sym (part .0) ∙ whole .0, sym (part .1) ∙ whole .1)
 
   -- with the right buffer the run decides
-  only : (run : List Float) (held : List ℕ) → length held ≡ recordsLength t → (r : Refusal) → meaning r ≡ sendSays t run held
+  only : (run : List Float) (held : List ℕ) → length held ≡ recordsLength t → (r : Refusal) → meaning r ≡ sendSays t oneBook onlyBook run held
       → ((meaning r ≡ 4 ∷ []) × (length run ≡ coordinatesIn t → ⊥)) ⊎ Eleven (meaning r)
   only run held room r says = go (ℕ-discrete (length run) (coordinatesIn t))
     where
@@ -128,7 +138,7 @@ module _ (t : List ℕ) (good : Good t) where
       go (yes long) =
           let rest = sendRest t run (length held) in
           let decides : firstOf rest (0 ∷ []) ≡ firstOf (runChecks t run) (0 ∷ []) = rw (eq-eqb (length run) (coordinatesIn t) long, eq-eqb (length held) (recordsLength t) room) refl in
-          inr (run-names t run r (says ∙ sym (passed-says (tableChecks t) rest (0 ∷ []) good) ∙ decides))
+          inr (run-names t run r (says ∙ sym (passed-says (opening t) rest (0 ∷ []) opened) ∙ decides))
       go (no other) = inl (says ∙ sym (wrong-run run held (ap not (ne-eqb (length run) (coordinatesIn t) other)) .0), other)
 
 module _ (t : List ℕ) where
@@ -142,14 +152,14 @@ module _ (t : List ℕ) where
 
   module _ (run : List Float) (held : List ℕ) where
     behind : List ℕ → List Check
-    behind u = eachFrom (rowCheck u) 0 (rowsOf u) ++ sendRest u run (length held)
+    behind u = eachFrom (rowCheck u) 0 (rowsOf u) ++ (bookCheck oneBook onlyBook ∷ []) ++ sendRest u run (length held)
 
-    read-sent : (sendSays (take tableRoom t) run held ≡ sendSays t run held) × (sendLeaves (take tableRoom t) run held ≡ sendLeaves t run held)
+    read-sent : (sendSays (take tableRoom t) oneBook onlyBook run held ≡ sendSays t oneBook onlyBook run held) × (sendLeaves (take tableRoom t) oneBook onlyBook run held ≡ sendLeaves t oneBook onlyBook run held)
     unfolding behind
     read-sent =
         let u = take tableRoom t in
-        ⊎-elim (λ all. (ap (λ (v : List ℕ). sendSays v run held) all, ap (λ (v : List ℕ). sendLeaves v run held) all))
-        (λ both. (wrong-says u (both .0) (behind u) (0 ∷ []) ∙ sym (wrong-says t (both .1) (behind t) (0 ∷ [])), wrong-leaves u (both .0) (behind u) (recordsOf u run) held ∙ sym (wrong-leaves t (both .1) (behind t) (recordsOf t run) held)))
+        ⊎-elim (λ all. (ap (λ (v : List ℕ). sendSays v oneBook onlyBook run held) all, ap (λ (v : List ℕ). sendLeaves v oneBook onlyBook run held) all))
+        (λ both. (wrong-says u (both .0) (behind u) (0 ∷ []) ∙ sym (wrong-says t (both .1) (behind t) (0 ∷ [])), wrong-leaves u (both .0) (behind u) (recordsOf u onlyBook run) held ∙ sym (wrong-leaves t (both .1) (behind t) (recordsOf t onlyBook run) held)))
         (room-tells t)
 
   read-printed : (bytes : List ℕ) → senderPrints (take tableRoom t) bytes ≡ senderPrints t bytes

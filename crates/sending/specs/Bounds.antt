@@ -4,9 +4,12 @@ use mathlib.Core.List.{List}
 use mathlib.Core.Path.{_≡_}
 use lib.Ieee.{Float}
 use lib.ListN.{length}
+use Rattle.tables.specs.BookNumbers.{mostBooks}
 use Rattle.tables.specs.Row.{lengthOf, IsRow}
 use Rattle.tables.specs.Table.{placesIn, rowOf, Good}
+use Rattle.records.specs.Naming.{InField}
 use Rattle.records.specs.Record.{recordLength}
+use Rattle.records.specs.declared.inner.Named.{Named}
 use Rattle.coefficients.specs.Coefficients.{AllUsable}
 use Rattle.runs.specs.Run.{coordinatesIn, vectorFor}
 use Rattle.runs.specs.Sending.{recordsLength}
@@ -22,16 +25,17 @@ pub record Measured (t : List ℕ) (places first : ℕ) (run : List Float) : Typ
   pub opened : Opened t places first
   pub run-long : length run ≡ coordinatesIn t
 
--- of usable coefficients, with a buffer of 8 bytes a place
-pub record Judged (t : List ℕ) (places first : ℕ) (run : List Float) (held : List ℕ) : Type 0 where
+-- of usable coefficients, with one of 16 books and a buffer of 8 bytes a place
+pub record Judged (t : List ℕ) (places first book : ℕ) (run : List Float) (held : List ℕ) : Type 0 where
   pub measured : Measured t places first run
+  pub book-to : book < mostBooks
   pub all-usable : (p : ℕ) → p < placesIn t → AllUsable (vectorFor t run p)
   pub has-room : length held ≡ recordsLength t
 
 -- the vector of a place of this row is written where the place's record stands in the buffer
-pub record Writable (row : List ℕ) (xs : List Float) (p : ℕ) (held : List ℕ) : Type 0 where
+pub record Writable (row : List ℕ) (xs : List Float) (named : Named) (held : List ℕ) : Type 0 where
   pub is-row : IsRow row
   pub of-length : length xs ≡ lengthOf row
   pub usable : AllUsable xs
-  pub place-to : p < 4096
-  pub room : recordLength * p + recordLength ≤ length held
+  pub in-field : InField named
+  pub room : recordLength * named .place + recordLength ≤ length held

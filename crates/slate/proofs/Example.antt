@@ -23,4 +23,10 @@ example =
       refused-8 = refl;
       refused-9 = refl;
       refused-12 = refl;
+      refused-17-0 = refl;
+      refused-17 = refl;
+      refused-17-wide = refl;
+      taken-book-1 = refl;
+      refused-book-1 = refl;
+      refused-books-3 = refl;
     }

@@ -1,5 +1,5 @@
 -- What the layout program, in C, is given (docs/RULES.md, "Calls for C"). l and k are any whole numbers; t
--- is the table's bytes, pg the page's, x those of a record; all of them any.
+-- is the table's bytes, `books` the number of books, pg the page's bytes, x those of a record; all of them any.
 use Prim.Native.Nat.{ℕ}
 use mathlib.Core.List.{List}
 use Rattle.answers.specs.Checks.{numberSaid, leaves}
@@ -10,7 +10,7 @@ use Rattle.rules.specs.Taking.{takeSays}
 -- "the version of the header", include/aldrynja.h, and of the formats that its calls take: raised when a program
 -- that was built for the version before would be given something else
 abbrev pub version : ℕ
-version = 4
+version = 5
 
 -- "count gives N, or 0 where count is refused"
 abbrev pub countGives : ℕ → ℕ → ℕ
@@ -18,5 +18,5 @@ countGives l k = leaves (shellChecks l k (N l k)) (N l k) 0
 
 -- "take gives 0 where the record is taken, and otherwise the number of the refusal without the row": the number
 -- that the call take says first
-abbrev pub takeGives : List ℕ → List ℕ → List ℕ → ℕ
-takeGives t pg x = numberSaid (takeSays t pg x)
+abbrev pub takeGives : List ℕ → ℕ → List ℕ → List ℕ → ℕ
+takeGives t books pg x = numberSaid (takeSays t books pg x)

@@ -7,6 +7,7 @@ use page::Arrival;
 use page::take;
 use shell::Counted;
 use shell::count;
+use tables::Books;
 ghost use mathlib.Core.Path.{_≡_};
 ghost use Rattle.rules.specs.Taking.{takeLeaves};
 ghost use Rattle.slate.specs.Given.{version, countGives, takeGives};
@@ -16,7 +17,7 @@ ghost use Rattle.slate.specs.Given.{version, countGives, takeGives};
 pub extern "C" fn aldrynja_version() -> u32
     ensures { λ n. ⌜ n ≡ version ⌝ }
 {
-    4
+    5
 }
 
 // The call count: N, or 0 for a refusal.
@@ -32,11 +33,11 @@ pub extern "C" fn aldrynja_count(length: u64, radius: u64) -> u64
 
 // The call take: 0, or the number of the refusal.
 #[no_mangle]
-pub extern "C" fn aldrynja_take(table: &[u8], page: &mut [u8], bytes: &[u8]) -> u32
-    ensures { λ n. ⌜ (n ≡ takeGives (now (table .entry)) (now (page .entry)) (now (bytes .entry)))
-        × (now (page .exit) ≡ takeLeaves (now (table .entry)) (now (page .entry)) (now (bytes .entry))) ⌝ }
+pub extern "C" fn aldrynja_take(table: &[u8], books: u64, page: &mut [u8], bytes: &[u8]) -> u32
+    ensures { λ n. ⌜ (n ≡ takeGives (now (table .entry)) books (now (page .entry)) (now (bytes .entry)))
+        × (now (page .exit) ≡ takeLeaves (now (table .entry)) books (now (page .entry)) (now (bytes .entry))) ⌝ }
 {
-    match take(table, page, bytes) {
+    match take(table, Books(books as usize), page, bytes) {
         Arrival::Taken => 0,
         Arrival::Refused(refusal) => number(refusal),
     }

@@ -119,26 +119,31 @@ pub record Table : Type 0 where
   pub says-16-33 : countSays 16 33 ≡ 2 ∷ []
   pub says-0-33 : countSays 0 33 ≡ 1 ∷ []
   -- 32,768 is refused 11, and the first coordinate at fault is named
-  pub says-beyond : quantizeSays wholeCase 1 (fin true 0 (pos 0) ∷ fin false 1 (pos 15) ∷ nan ∷ []) held ≡ 11 ∷ 1 ∷ []
+  pub says-beyond : quantizeSays wholeCase 1 0 1 (fin true 0 (pos 0) ∷ fin false 1 (pos 15) ∷ nan ∷ []) held ≡ 11 ∷ 1 ∷ []
   -- * row of length 3, radii 0 and 2, step 256: (1.5, 0, -0.75) gives (1,0,-1)
   pub star-quantized : pointFor (rowAt wholeCase 0) vector ≡ triple (pos 1) (pos 0) (negℤ (pos 1))
-  pub says-written : quantizeSays wholeCase 0 vector held ≡ 0 ∷ []
-  pub record-0 : quantizeLeaves wholeCase 0 vector held ≡ 0 ∷ 0 ∷ 0 ∷ 1 ∷ 0 ∷ 0 ∷ 0 ∷ 5 ∷ []
-  pub record-1 : quantizeLeaves wholeCase 1 vector held ≡ 0 ∷ 1 ∷ 0 ∷ 1 ∷ 0 ∷ 0 ∷ 0 ∷ 5 ∷ []
-  pub record-kept : quantizeLeaves wholeCase 2 vector held ≡ held
+  pub says-written : quantizeSays wholeCase 1 0 0 vector held ≡ 0 ∷ []
+  pub record-0 : quantizeLeaves wholeCase 1 0 0 vector held ≡ 0 ∷ 0 ∷ 0 ∷ 1 ∷ 0 ∷ 0 ∷ 0 ∷ 5 ∷ []
+  pub record-1 : quantizeLeaves wholeCase 1 0 1 vector held ≡ 0 ∷ 1 ∷ 0 ∷ 1 ∷ 0 ∷ 0 ∷ 0 ∷ 5 ∷ []
+  pub record-kept : quantizeLeaves wholeCase 1 0 2 vector held ≡ held
   -- with byte 14 the selector 1, the same point has the codeword 9
-  pub record-magnitude : quantizeLeaves (take 14 wholeCase ++ 1 ∷ 0 ∷ []) 0 vector held ≡ 0 ∷ 0 ∷ 0 ∷ 1 ∷ 0 ∷ 0 ∷ 0 ∷ 9 ∷ []
+  pub record-magnitude : quantizeLeaves (take 14 wholeCase ++ 1 ∷ 0 ∷ []) 1 0 0 vector held ≡ 0 ∷ 0 ∷ 0 ∷ 1 ∷ 0 ∷ 0 ∷ 0 ∷ 9 ∷ []
   -- in the second row, of length 5 and step 775, the sum 576 is nearest to radius 1, of number 1
-  pub record-row-1 : quantizeLeaves twoRows 2 longer held ≡ 0 ∷ 2 ∷ 1 ∷ 1 ∷ 0 ∷ 0 ∷ 0 ∷ 8 ∷ []
+  pub record-row-1 : quantizeLeaves twoRows 1 0 2 longer held ≡ 0 ∷ 2 ∷ 1 ∷ 1 ∷ 0 ∷ 0 ∷ 0 ∷ 8 ∷ []
   -- refusals 7, 8, 4 and 11 in their order, with two faults at once; a vector or record that is too short or too long
-  pub quantize-7 : quantizeSays (take 15 wholeCase) 2 [] [] ≡ 7 ∷ 0 ∷ []
-  pub quantize-8 : quantizeSays wholeCase 2 [] [] ≡ 8 ∷ []
-  pub quantize-4-short : quantizeSays wholeCase 0 (nan ∷ []) held ≡ 4 ∷ []
-  pub quantize-4-long : quantizeSays wholeCase 0 longer held ≡ 4 ∷ []
-  pub quantize-4-record-short : quantizeSays wholeCase 0 (nan ∷ nan ∷ nan ∷ []) (take 7 held) ≡ 4 ∷ []
-  pub quantize-4-record-long : quantizeSays wholeCase 0 vector (9 ∷ held) ≡ 4 ∷ []
-  pub quantize-11 : quantizeSays wholeCase 0 (nan ∷ nan ∷ nan ∷ []) held ≡ 11 ∷ 0 ∷ []
-  pub refused-kept : quantizeLeaves wholeCase 0 (nan ∷ nan ∷ nan ∷ []) held ≡ held
+  pub quantize-7 : quantizeSays (take 15 wholeCase) 1 0 2 [] [] ≡ 7 ∷ 0 ∷ []
+  pub quantize-8 : quantizeSays wholeCase 1 0 2 [] [] ≡ 8 ∷ []
+  -- 17 before 7, 7 before 8 for a book, 8 before 4; the record of place 1 in book 9 of ten
+  pub quantize-17 : quantizeSays [] 17 17 2 [] [] ≡ 17 ∷ []
+  pub quantize-7-first : quantizeSays [] 2 2 2 [] [] ≡ 7 ∷ 0 ∷ []
+  pub quantize-8-book : quantizeSays wholeCase 9 9 0 [] [] ≡ 8 ∷ []
+  pub record-book-9 : quantizeLeaves wholeCase 10 9 1 vector held ≡ 0x90 ∷ 1 ∷ 0 ∷ 1 ∷ 0 ∷ 0 ∷ 0 ∷ 5 ∷ []
+  pub quantize-4-short : quantizeSays wholeCase 1 0 0 (nan ∷ []) held ≡ 4 ∷ []
+  pub quantize-4-long : quantizeSays wholeCase 1 0 0 longer held ≡ 4 ∷ []
+  pub quantize-4-record-short : quantizeSays wholeCase 1 0 0 (nan ∷ nan ∷ nan ∷ []) (take 7 held) ≡ 4 ∷ []
+  pub quantize-4-record-long : quantizeSays wholeCase 1 0 0 vector (9 ∷ held) ≡ 4 ∷ []
+  pub quantize-11 : quantizeSays wholeCase 1 0 0 (nan ∷ nan ∷ nan ∷ []) held ≡ 11 ∷ 0 ∷ []
+  pub refused-kept : quantizeLeaves wholeCase 1 0 0 (nan ∷ nan ∷ nan ∷ []) held ≡ held
   -- * a sum of 256 ties between radii 0 and 2: radius 0
   pub star-tie : chosenRadius (rowAt wholeCase 0) 256 ≡ 0
   pub past-the-tie : chosenRadius (rowAt wholeCase 0) 257 ≡ 2

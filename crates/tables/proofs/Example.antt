@@ -85,4 +85,16 @@ example =
       rows-32 = refl;
       rows-33 = refl;
       rows-cut = refl;
+      books-0 = refl;
+      books-1 = refl;
+      books-16 = refl;
+      books-17 = refl;
+      books-wide = refl;
+      books-first = refl;
+      book-1 = refl;
+      book-2 = refl;
+      book-after-table = refl;
+      in-book = refl;
+      in-no-book = refl;
+      in-no-place = refl;
     }

@@ -1,6 +1,6 @@
 -- Two rows, read by the definitions: the row of the whole case (docs/RULES.md, "Worked cases"), and one of the
 -- magnitude enumeration in which every byte differs from its neighbours; the faults of each, and those that go by the
--- row's own total; and tables of those rows.
+-- row's own total; tables of those rows; and books that share them.
 -- proofs/Example.antt computes every line.
 use Prim.Native.Nat.{ℕ, zero, suc}
 use mathlib.Core.Path.{_≡_}
@@ -12,7 +12,8 @@ use Rattle.counts.specs.Counts.{N}
 use Rattle.enumeration.specs.Enumerations.{product, magnitude}
 use Rattle.tables.specs.Usable.{tooMany, shellChecks}
 use Rattle.tables.specs.Row.{lengthOf, radiiOf, radiusAt, stepOf, placesOf, selectorOf, badRow}
-use Rattle.tables.specs.Table.{rowAt, tableRoom, checkSays, noSuchPlace, rowOf, lengthFor, enumerationFor}
+use Rattle.tables.specs.Table.{rowAt, tableRoom, checkSays, noSuchPlace, rowOf, lengthFor, enumerationFor, surveySays}
+use Rattle.tables.specs.BookNumbers.{sharingChecks, bookChecks, placeChecks}
 
 abbrev pub wholeCase : List ℕ
 wholeCase = 3 ∷ 2 ∷ 0 ∷ 2 ∷ 0 ∷ 0 ∷ 0 ∷ 0 ∷ 0 ∷ 0 ∷ 1 ∷ 0 ∷ 0 ∷ 2 ∷ 0 ∷ 0 ∷ []
@@ -134,3 +135,18 @@ pub record Example : Type 0 where
   pub rows-32 : checkSays (again 32 wholeCase) ≡ 0 ∷ 64 ∷ []
   pub rows-33 : checkSays (again 33 wholeCase) ≡ 7 ∷ 0 ∷ []
   pub rows-cut : checkSays (take tableRoom (again 33 wholeCase)) ≡ 7 ∷ 0 ∷ []
+  -- the number of books: none, 1, 16, 17, and one that is 1 in its low 32 bits; 17 before 7
+  pub books-0 : surveySays (sharingChecks wholeCase 0) wholeCase 1 ≡ 17 ∷ []
+  pub books-1 : surveySays (sharingChecks wholeCase 1) wholeCase 1 ≡ 0 ∷ 2 ∷ 0 ∷ []
+  pub books-16 : surveySays (sharingChecks wholeCase 16) wholeCase 1 ≡ 0 ∷ 2 ∷ 0 ∷ []
+  pub books-17 : surveySays (sharingChecks wholeCase 17) wholeCase 1 ≡ 17 ∷ []
+  pub books-wide : surveySays (sharingChecks wholeCase 4294967297) wholeCase 1 ≡ 17 ∷ []
+  pub books-first : surveySays (placeChecks [] 17 17 2) [] 2 ≡ 17 ∷ []
+  -- the last of two books, and one more; 7 before 8
+  pub book-1 : surveySays (bookChecks wholeCase 2 1) wholeCase 0 ≡ 0 ∷ 2 ∷ 0 ∷ []
+  pub book-2 : surveySays (bookChecks wholeCase 2 2) wholeCase 0 ≡ 8 ∷ []
+  pub book-after-table : surveySays (bookChecks [] 2 2) [] 0 ≡ 7 ∷ 0 ∷ []
+  -- a place of the last book, a place of no book, and no place
+  pub in-book : surveySays (placeChecks twoRows 2 1 2) twoRows 2 ≡ 0 ∷ 262 ∷ 1 ∷ []
+  pub in-no-book : surveySays (placeChecks twoRows 2 2 2) twoRows 2 ≡ 8 ∷ []
+  pub in-no-place : surveySays (placeChecks twoRows 2 1 262) twoRows 262 ≡ 8 ∷ []

@@ -3,7 +3,7 @@
 -- a row.
 use Prim.Native.Nat.{ℕ, zero, suc, _+_, _*_, _/_, _%_, _≤_, _<_}
 use mathlib.Core.Path.{_≡_}
-use mathlib.Core.List.{List, [], _∷_, _++_}
+use mathlib.Core.List.{List, [], _∷_}
 use mathlib.Core.Bool.{Bool, not}
 use lib.Dec.{eqb, leb, ltb}
 use lib.ListN.{length, take, drop}
@@ -72,10 +72,6 @@ noSuchPlace t p = leb (placesIn t) p
 
 abbrev pub placeCheck : List ℕ → ℕ → Check
 placeCheck t p = record { number = 8; values = []; fails = noSuchPlace t p }
-
--- what is checked of a table and a place in it: 7, 8
-abbrev pub placeChecks : List ℕ → ℕ → List Check
-placeChecks t p = tableChecks t ++ (placeCheck t p ∷ [])
 
 -- how many of the first n rows end before the place
 unfoldable pub rowsBefore : List ℕ → ℕ → ℕ → ℕ

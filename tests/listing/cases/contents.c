@@ -19,7 +19,7 @@ enum thing {
     HELD_AND_REPEATED,
     CONTESTED_BY_SOUND,
     CONTESTED_AND_BACK,
-    NOT_IN_TABLE,
+    OTHER_BOOK,
     OTHER_ROW_AT_SOUND,
     OTHER_ROW_AT_MENDED,
     OTHER_ROW_AT_MISSING,
@@ -59,7 +59,7 @@ static const char *const names[THINGS] = {
     [HELD_AND_REPEATED] = "places that are held and whose record came again",
     [CONTESTED_BY_SOUND] = "places contested by two records that are sound by themselves",
     [CONTESTED_AND_BACK] = "contested places whose last record is the first one again",
-    [NOT_IN_TABLE] = "records of places that are not in the table",
+    [OTHER_BOOK] = "records of another book, of a place that is in the table and of the row of that place",
     [OTHER_ROW_AT_SOUND] = "sound places for which a record of another row came too",
     [OTHER_ROW_AT_MENDED] = "mended places for which a record of another row came too",
     [OTHER_ROW_AT_MISSING] = "missing places for which a record of another row came",
@@ -160,9 +160,9 @@ static void tell_foreign(const struct table *table, uint64_t place, const uint8_
 /* One record of the capture, when all is gathered. */
 static void tell_record(const struct table *table, const uint8_t *record)
 {
-    const uint64_t place = two_bytes(record + AT_PLACE);
-    count_if(place >= gathering.places, NOT_IN_TABLE);
-    if (place >= gathering.places)
+    const uint64_t field = field_in(record), place = place_in(field);
+    count_if(book_in(field) > 0 && place < gathering.places && !is_foreign(table, record), OTHER_BOOK);
+    if (field >= gathering.places)
         return;
     if (is_foreign(table, record)) {
         tell_foreign(table, place, record);

@@ -46,7 +46,7 @@ struct table full_table(void)
 /* A vector that is not refused, quantized. */
 struct quantizing send_for(const struct table *table, uint64_t place)
 {
-    struct vector vector = {.table = *table, .place = place};
+    struct vector vector = {.table = *table, .books = ONE_BOOK, .place = place};
     struct quantizing made;
     do {
         coefficients_by_chance(&vector);

@@ -23,9 +23,9 @@ static const uint8_t two_rows[] = {
 static const uint8_t records_and_a_part[] = {0, 3, 1, 1, 0, 0, 0, 11, 0, 0, 0, 1, 0, 0, 0, 0x05,
                                              0, 4, 1, 1, 0, 0, 0, 11, 0, 1, 0, 1, 0, 0, 0};
 
-/* The same two points among records of places that are not in the table: the one behind the last, which comes
-   twice; places 1 and 2 with their bytes exchanged; what would be places 0 and 1 in 12 bits; and what would be
-   negative with a sign. */
+/* The same two points among records of places that are not in the table, and of other books: the place behind the
+   last, which comes twice; places 1 and 2 with their bytes exchanged; places 0 and 1 in book 1, and place 0 in book 8,
+   each of its own row; and the last place that a field can name, in the last book. */
 static const uint8_t strangers[] = {
     RECORD(4, 1, 1, 4),    RECORD(256, 0, 1, 0),  RECORD(3, 1, 1, 11),    RECORD(512, 1, 1, 0),   RECORD(4096, 0, 1, 0),
     RECORD(4097, 0, 1, 0), RECORD(0, 0, 1, 0x05), RECORD(32768, 0, 1, 0), RECORD(65535, 1, 1, 0), RECORD(4, 1, 1, 4),

@@ -79,7 +79,8 @@ void carry(const struct quantizing *sent, struct capture *to)
     }
 }
 
-/* Records of places that no table has, some of them where a place is cut to 12 bits, or its bytes are exchanged. */
+/* Records of other books than the one that is listed: of its first two places or of its last one, of a place whose
+   bytes are exchanged, or any. */
 void put_strangers(struct capture *to)
 {
     uint8_t record[RECORD_SIZE];

@@ -1,6 +1,6 @@
 /* What came for each place of a table. The page is not made step by step: of all that claim a place the first record is
-   kept, and whether any other differs from it, so that the order plays no part. See docs/RULES.md, "The page" and
-   "Listing program". */
+   kept, and whether any other differs from it, so that the order plays no part. See docs/RULES.md, "The page", "Books"
+   and "Listing program". */
 
 #include "../listing.h"
 
@@ -14,8 +14,8 @@ void begin_gathering(struct gathering *to, const struct table *table)
         to->came[place].row = row_of(table, place);
 }
 
-/* "A record of 8 bytes claims the place in its first two bytes if the table has that place, and if the record's row is
-   the row of that place." */
+/* There is one book, and a table has at most as many places as a field has room for: a field of another book is that of
+   no place. The record's row must be the row of the place. */
 static int claims_place(const struct gathering *of, const uint8_t *part, uint64_t size)
 {
     if (size != RECORD_SIZE)

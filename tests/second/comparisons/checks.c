@@ -1,15 +1,16 @@
-/* The refusals 7, 8, 4 and 11 of quantize, each alone and together with others of them, so that the order of checks is
-   compared too; docs/RULES.md, "Refusal numbers" and "Order of checks". */
+/* The refusals 17, 7, 8, 4 and 11 of quantize, each alone and together with others of them, so that the order of checks
+   is compared too; docs/RULES.md, "Books", "Refusal numbers" and "Order of checks". */
 
 #include "comparisons.h"
 
 #include <stdio.h>
 
-enum { SET_TABLES = 2000, BAD_TABLES = 60000, PLACE_TABLES = 500, PLACES_OF_TABLE = 20 };
+enum { VECTORS_OF_SET = 700, BAD_TABLES = 60000, PLACE_TABLES = 500, PLACES_OF_TABLE = 20 };
 enum { MOST_SIZE = 600, MOST_COEFFICIENTS = 20, MOST_RECORD = 12 };
 
-/* What is wrong with a vector, as the bits of a set. */
-enum { WRONG_TABLE = 1, WRONG_PLACE = 2, WRONG_LENGTH = 4, WRONG_RECORD = 8, WRONG_COEFFICIENT = 16, SETS = 32 };
+/* What is wrong with a vector, as the bits of a set; those of the table, the books and the place are those of the
+   page. */
+enum { WRONG_COEFFICIENTS = 16, WRONG_RECORD = 32, WRONG_COEFFICIENT = 64, SETS_OF_VECTOR = 128 };
 
 /* From 32,768 to the largest f32, infinity, and NaN of both kinds; the signs are given later. */
 static const uint32_t unusable[] = {0x47000000, 0x47000001, 0x47000100, 0x477fffff, 0x47800000, 0x4b000000,
@@ -21,6 +22,7 @@ static struct vector right_vector(void)
 {
     struct vector vector = {.table = good_table_by_chance()};
     place_by_chance(&vector);
+    give_books(&vector.books, &vector.book);
     do
         coefficients_by_chance(&vector);
     while (quantize(&vector).answer.refusal);
@@ -47,12 +49,16 @@ static struct vector with_faults(const struct vector *right, int set)
     struct vector wrong = *right;
     if (set & WRONG_COEFFICIENT)
         spoil(&wrong);
-    if (set & WRONG_LENGTH)
+    if (set & WRONG_COEFFICIENTS)
         wrong.length = other_than(right->length, MOST_COEFFICIENTS);
     if (set & WRONG_RECORD)
         wrong.record_length = other_than(RECORD_SIZE, MOST_RECORD);
     if (set & WRONG_PLACE)
         wrong.place = wrong_place(places_of(right));
+    if (set & WRONG_BOOK)
+        wrong.book = wrong_book(right->books);
+    if (set & WRONG_BOOKS)
+        wrong.books = no_books_by_chance(right->books);
     if (set & WRONG_TABLE)
         spoil_table(&wrong.table);
     return wrong;
@@ -63,15 +69,16 @@ static void compare_refused(const struct vector *vector, uint32_t refusal)
     own_figure("refusal of a vector with a fault", compare_vector(vector), refusal);
 }
 
-/* Every set of faults: "quantize | 7, 8, 4, 11". */
+/* Every set of faults: "quantize | 17, 7, 8, 4, 11". */
 static void compare_sets(void)
 {
-    for (int i = 0; i < SET_TABLES; i++) {
+    for (int i = 0; i < VECTORS_OF_SET; i++) {
         const struct vector right = right_vector();
-        for (int set = 0; set < SETS; set++) {
+        for (int set = 0; set < SETS_OF_VECTOR; set++) {
             const struct vector wrong = with_faults(&right, set);
-            const uint32_t length = set & (WRONG_LENGTH | WRONG_RECORD) ? 4 : set & WRONG_COEFFICIENT ? 11 : 0;
-            compare_refused(&wrong, set & WRONG_TABLE ? 7 : set & WRONG_PLACE ? 8 : length);
+            const uint32_t length = set & (WRONG_COEFFICIENTS | WRONG_RECORD) ? 4 : set & WRONG_COEFFICIENT ? 11 : 0;
+            const uint32_t place = set & (WRONG_BOOK | WRONG_PLACE) ? 8 : length, table = set & WRONG_TABLE ? 7 : place;
+            compare_refused(&wrong, set & WRONG_BOOKS ? 17 : table);
         }
     }
 }
@@ -83,6 +90,7 @@ static void compare_bad_tables(void)
     for (int i = 0; i < BAD_TABLES; i++) {
         struct vector vector = {.table = table_by_chance(), .record_length = RECORD_SIZE};
         vector.place = chance_below(MOST_PLACES);
+        give_books(&vector.books, &vector.book);
         const uint64_t row = row_of(&vector.table, vector.place);
         vector.length = vector.table.bytes[row * ROW_SIZE + AT_LENGTH] % (MOST_LENGTH + 1);
         for (uint64_t j = 0; j < vector.length; j++)
@@ -102,7 +110,7 @@ static void compare_bad_tables(void)
 static void compare_sizes(void)
 {
     const uint64_t cut[] = {65536 + 16, 65536 + 512, TWO_TO_32 + 16, TWO_TO_32 + 512};
-    struct vector right = {.table = rows_by_chance(MOST_LENT_ROWS, MOST_PLACES / MOST_LENT_ROWS), .place = 0};
+    struct vector right = {.table = rows_by_chance(MOST_LENT_ROWS, MOST_PLACES / MOST_LENT_ROWS), .books = 1};
     coefficients_by_chance(&right);
     struct vector wrong = right;
     spoil(&wrong);
@@ -117,15 +125,20 @@ static void compare_sizes(void)
     }
 }
 
-/* The place past the last one and others that are not in the table, with the rest right and with it wrong. */
+/* The place past the last one and others that are not in the table, and books that are not there, with the rest right
+   and with it wrong. */
 static void compare_wrong_places(void)
 {
     for (int i = 0; i < PLACE_TABLES; i++) {
         const struct vector right = right_vector();
         const uint64_t places = places_of(&right);
         for (int j = 0; j < PLACES_OF_TABLE; j++) {
-            struct vector vector = with_faults(&right, j % 2 ? WRONG_LENGTH | WRONG_RECORD | WRONG_COEFFICIENT : 0);
-            vector.place = j < 2 ? places : wrong_place(places);
+            const int rest = WRONG_COEFFICIENTS | WRONG_RECORD | WRONG_COEFFICIENT;
+            struct vector vector = with_faults(&right, j % 2 ? rest : 0);
+            if (j % 4 < 2)
+                vector.place = j < 4 ? places : wrong_place(places);
+            else
+                vector.book = j < 8 ? right.books : wrong_book(right.books);
             compare_refused(&vector, 8);
         }
     }
@@ -202,6 +215,6 @@ void compare_checks(void)
         compare_unusable_of(length);
         compare_exponents(&right);
     }
-    printf("checks: %d sets of faults together, each %d times; %lu more vectors quantized\n", SETS, SET_TABLES,
-           compared.vectors - answered);
+    printf("checks: %d sets of faults together, each %d times; ", SETS_OF_VECTOR, VECTORS_OF_SET);
+    printf("%lu more vectors quantized\n", compared.vectors - answered);
 }

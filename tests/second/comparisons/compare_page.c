@@ -25,7 +25,7 @@ static void call_collect(const struct taking *taking, uint64_t refusals, int by_
     struct table_room table = table_among_guards(taking->table);
     struct arrival_room room = arrival_among_guards(run);
     struct page *page = taking->page;
-    const uint64_t got = probe_collect(by_null && taking->table->size == 0 ? 0 : table.bytes, taking->table->size,
+    const uint64_t got = probe_collect(lent_table(taking->table, &table, by_null), taking->table->size, page->books,
                                        by_null && page->size == 0 ? 0 : page->lent[0] + GUARDS, page->size,
                                        by_null && run->length == 0 ? 0 : room.bytes, run->length);
     if (got != refusals) {
@@ -46,8 +46,8 @@ static void take_parts(const struct taking *taking, uint64_t refusals)
     uint64_t got = 0;
     for (uint64_t at = 0; at < run->length; at += RECORD_SIZE) {
         const uint64_t left = run->length - at, length = left < RECORD_SIZE ? left : RECORD_SIZE;
-        got += probe_take(table.bytes, taking->table->size, taking->page->lent[1] + GUARDS, taking->page->size, room.bytes + at,
-                          length, 0) != 0;
+        got += probe_take(table.bytes, taking->table->size, taking->page->books, taking->page->lent[1] + GUARDS,
+                          taking->page->size, room.bytes + at, length, 0) != 0;
         compared.calls_of_page++;
     }
     if (got != refusals) {

@@ -27,11 +27,11 @@ struct list compare_coefficient(const struct question *question)
     return expected;
 }
 
-struct list compare_tally(uint64_t mode, const struct table *table, const struct page *page)
+struct list compare_tally(const struct question *question)
 {
-    const struct list expected = tally(mode, table, page);
-    compared.calls_of_page += expect_tally("probe_tally", probe_tally, mode, table, page, expected);
-    note_tally(mode, table, page, expected);
+    const struct list expected = tally(question);
+    compared.calls_of_page += expect_tally("probe_tally", probe_tally, question, expected);
+    note_tally(question, expected);
     note(as_answer((uint32_t)expected.items[0]), &compared.tallies);
     return expected;
 }

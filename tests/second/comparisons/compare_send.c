@@ -1,5 +1,5 @@
 /* One comparison of send with the rules in rules/sending.c, and what a page that was sent is to its receiver: taken
-   into an empty page, every place is sound and has the quantized point. */
+   into an empty page, every place of its book is sound and has the quantized point, and the other books are empty. */
 
 #include "../kinds/lent_send.h"
 #include "../kinds/send_kinds.h"
@@ -8,6 +8,7 @@
 #include <stdio.h>
 
 static struct sent expected;
+static uint8_t page[CELL_SIZE * MOST_BOOKS * MOST_PLACES]; /* of the receiver */
 
 /* The refusal of the program's own rules is returned. */
 uint64_t compare_send(const struct sending *sending)
@@ -30,39 +31,52 @@ static void hold(const struct table *table, const char *what, uint64_t wanted, u
 }
 
 /* One place of the page that was received: sound in each mode, with the point of the program's own quantizer. */
-static void compare_point_received(uint64_t mode, const struct quantizing *made, const struct table *table, const uint8_t *page,
-                                   uint64_t page_size, uint64_t place)
+static void compare_point_received(uint64_t mode, const struct sending *sending, const struct quantizing *made,
+                                   uint64_t size, uint64_t place)
 {
     int32_t point[MOST_LENGTH];
-    const uint64_t length = made->shell.length;
+    const struct table *table = &sending->table;
+    const uint64_t length = made->shell.length, books = sending->books, book = sending->book;
     for (uint64_t item = 0; item < 2; item++)
         hold(table, item == 0 ? "refusal of read" : "answer of read", item == 0 ? 0 : SOUND,
-             probe_read(mode, table->bytes, table->size, page, page_size, place, point, length, item));
+             probe_read(mode, table->bytes, table->size, books, book, page, size, place, point, length, item));
     for (uint64_t i = 0; i < length; i++)
         hold(table, "coordinate, as 64 bits,", (uint64_t)made->point[i], (uint64_t)point[i]);
 }
 
 /* And quantize writes this very record. */
-static void compare_received(const struct sending *sending, const uint8_t *page, uint64_t page_size, uint64_t place)
+static void compare_received(const struct sending *sending, uint64_t size, uint64_t place)
 {
-    const struct table *table = &sending->table;
     const struct vector vector = vector_at(sending, place);
     const struct quantizing made = quantize(&vector);
     for (uint64_t mode = 0; mode < MODES; mode++)
-        compare_point_received(mode, &made, table, page, page_size, place);
+        compare_point_received(mode, sending, &made, size, place);
     expect_quantize(&vector, &made.answer);
+}
+
+/* How many places of a book have an answer. */
+static uint64_t tally_received(uint64_t mode, const struct sending *sending, uint64_t book, uint64_t size,
+                               enum reading_word word)
+{
+    const struct table *table = &sending->table;
+    return probe_tally(mode, table->bytes, table->size, sending->books, book, page, size, 1 + (uint64_t)word);
 }
 
 /* A page that is not refused, and then what its receiver has. */
 void compare_send_received(const struct sending *sending)
 {
-    static uint8_t page[CELL_SIZE * MOST_PLACES];
     const struct table *table = &sending->table;
-    const uint64_t places = sending->buffer_length / RECORD_SIZE, size = CELL_SIZE * places;
+    const uint64_t places = sending->buffer_length / RECORD_SIZE, books = sending->books;
+    const uint64_t size = CELL_SIZE * places * books;
     own_figure("refusal of a page that is right", compare_send(sending), 0);
     __builtin_memset(page, 0, size);
-    hold(table, "refused takes", 0, probe_collect(table->bytes, table->size, page, size, expected.records, sending->buffer_length));
-    for (uint64_t mode = 0; mode < MODES; mode++)
-        hold(table, "sound places", places, probe_tally(mode, table->bytes, table->size, page, size, 1 + SOUND));
-    compare_received(sending, page, size, some_place(table));
+    hold(table, "refused takes", 0,
+         probe_collect(table->bytes, table->size, books, page, size, expected.records, sending->buffer_length));
+    for (uint64_t mode = 0; mode < MODES; mode++) {
+        hold(table, "sound places", places, tally_received(mode, sending, sending->book, size, SOUND));
+        if (books > 1)
+            hold(table, "missing places of another book", places,
+                 tally_received(mode, sending, (sending->book + 1) % books, size, MISSING));
+    }
+    compare_received(sending, size, some_place(table));
 }

@@ -3,7 +3,7 @@
 #ifndef SECOND_COMPARISONS_H
 #define SECOND_COMPARISONS_H
 
-#include "../draws/draws.h"
+#include "../draws/page_draws.h"
 #include "../kinds/lent.h"
 #include "../probe.h"
 #include "../rules/sending.h"
@@ -22,7 +22,8 @@ struct comparisons {
     uint64_t tallies;
     uint64_t lines;         /* calls of lines that are answered */
     uint64_t modes;         /* questions in both modes that are answered */
-    uint64_t calls_of_page; /* how many calls the last seven took */
+    uint64_t books_apart;   /* books that are held apart from the others of their page */
+    uint64_t calls_of_page; /* how many calls the last eight took */
     uint64_t sends;
     uint64_t refusals[MOST_REFUSAL + 1];
     uint64_t of_index[MOST_REFUSAL + 1]; /* of these those of index, and 0 for what it answers */
@@ -49,14 +50,14 @@ uint64_t compare_run(const struct table *table, struct page *page, const struct 
 /* compare_reading.c: one comparison of read, coefficient, the tally or lines */
 struct list compare_read(const struct question *question);
 struct list compare_coefficient(const struct question *question);
-struct list compare_tally(uint64_t mode, const struct table *table, const struct page *page);
+struct list compare_tally(const struct question *question);
 struct list compare_lines(const struct question *question);
 
 /* modes.c: the same in both modes, whatever mode the question has, and held against each other; and lengths of a buffer
    for lines */
 void compare_reads(const struct question *question);
 void compare_coefficients(const struct question *question);
-void compare_both_tallies(const struct table *table, const struct page *page);
+void compare_both_tallies(const struct question *question);
 void compare_both_lines(const struct question *question);
 uint64_t text_length_by_chance(void);
 
@@ -90,6 +91,8 @@ void compare_runs(void);
 void compare_places(void);
 void compare_tallies(void);
 void compare_page_checks(void);
+void compare_books(void);
+void compare_books_apart(void);
 void compare_sends(void);
 
 #endif

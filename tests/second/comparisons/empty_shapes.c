@@ -33,7 +33,7 @@ static struct page page;
 /* What the program's own rules say of the codeword, which is in the page. */
 static void hold_codeword(uint64_t codeword, uint64_t mode)
 {
-    const struct question question = {mode, &table, &page, 0, LENGTH};
+    const struct question question = {mode, &table, &page, 0, 0, LENGTH};
     const int is_6 = mode == PLAIN_MODE && codeword >= TOTAL && codeword < POWER;
     const int is_unreadable = wanted[codeword].word == UNREADABLE;
     int32_t point[MOST_LENGTH];
@@ -48,7 +48,7 @@ static void hold_codeword(uint64_t codeword, uint64_t mode)
 /* The codeword in a page of one place. */
 static void compare_codeword(uint64_t codeword)
 {
-    struct question question = {0, &table, &page, 0, LENGTH};
+    struct question question = {0, &table, &page, 0, 0, LENGTH};
     uint8_t cell[CELL_SIZE] = {STATE_HELD};
     write_record(cell + AT_RECORD, 0, 0, 1, codeword);
     begin_page(&page, 1);
@@ -58,7 +58,7 @@ static void compare_codeword(uint64_t codeword)
     compare_reads(&question);
     for (question.number = 0; question.number < LENGTH; question.number++)
         compare_coefficients(&question);
-    compare_both_tallies(&table, &page);
+    compare_both_tallies(&question);
     question.number = LINE_SPACE;
     compare_both_lines(&question);
 }

@@ -9,7 +9,7 @@
 /* 10 and 14 are reasons of an unreadable place alone: no call refuses with them. */
 static void print_compared(void)
 {
-    const int refusals[] = {1, 2, 3, 4, 5, 6, 7, 8, 9, 11, 12, 13, 15, 16, 20};
+    const int refusals[] = {1, 2, 3, 4, 5, 6, 7, 8, 9, 11, 12, 13, 15, 16, 17, 20};
     printf("refused:");
     for (uint64_t i = 0; i < ENTRIES(refusals); i++)
         printf("%s %lu with %d", i > 0 ? "," : "", compared.refusals[refusals[i]], refusals[i]);
@@ -18,7 +18,7 @@ static void print_compared(void)
     printf("%lu taken records, %lu runs of records, ", compared.takes, compared.runs);
     printf("%lu places, %lu coefficients, ", compared.places, compared.coefficients);
     printf("%lu tallies, %lu calls of lines, ", compared.tallies, compared.lines);
-    printf("%lu sent pages and every refusal\n", compared.sends);
+    printf("%lu books apart, %lu sent pages and every refusal\n", compared.books_apart, compared.sends);
 }
 
 int main(void)

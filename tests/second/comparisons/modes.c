@@ -30,7 +30,8 @@ static void hold_modes(const struct question *question, struct list plain, struc
     if (plain.items[0] != 0)
         return;
     own_figure("mended places in plain mode", plain.items[1] == MENDED, 0);
-    if (is_overflowing(question->table, question->place, cell_at(question->page, question->place)))
+    const uint8_t *cell = cell_asked(question, question->place);
+    if (is_overflowing(question->table, place_field(question->book, question->place), cell))
         hold_overflowing(plain, mending);
     else
         own_figure("difference of the modes", is_same(&plain, &mending, sizeof plain), 1);
@@ -66,9 +67,11 @@ void compare_coefficients(const struct question *question)
 }
 
 /* Of the tally only mended and unreadable may differ, and their sum may not. */
-void compare_both_tallies(const struct table *table, const struct page *page)
+void compare_both_tallies(const struct question *question)
 {
-    const struct list plain = compare_tally(PLAIN_MODE, table, page), mending = compare_tally(MENDING_MODE, table, page);
+    const struct question in_plain = {PLAIN_MODE, question->table, question->page, question->book, 0, 0};
+    const struct question in_mending = {MENDING_MODE, question->table, question->page, question->book, 0, 0};
+    const struct list plain = compare_tally(&in_plain), mending = compare_tally(&in_mending);
     const uint64_t sum = mending.items[1 + MENDED] + mending.items[1 + UNREADABLE];
     own_figure("refusal of the tally in the other mode", plain.items[0], mending.items[0]);
     if (plain.items[0] != 0)

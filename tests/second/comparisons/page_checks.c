@@ -1,5 +1,6 @@
 /* The refusals of the calls of the page, each alone and together with others, so that the order of checks is compared
-   too; every state; and bad tables of every kind. See docs/RULES.md, "Refusal numbers" and "Order of checks". */
+   too; every state; and bad tables of every kind. See docs/RULES.md, "Books", "Refusal numbers" and "Order of
+   checks". */
 
 #include "../draws/page_draws.h"
 #include "comparisons.h"
@@ -18,22 +19,23 @@ static uint64_t take_of(const struct case_of_page *of)
 
 static uint64_t read_of(uint64_t mode, const struct case_of_page *of)
 {
-    return compare_read(&(struct question){mode, &of->table, &page, of->place, of->out_length}).items[0];
+    return compare_read(&(struct question){mode, &of->table, &page, of->book, of->place, of->out_length}).items[0];
 }
 
 static uint64_t coefficient_of(uint64_t mode, const struct case_of_page *of)
 {
-    return compare_coefficient(&(struct question){mode, &of->table, &page, of->place, of->coordinate}).items[0];
+    const struct question question = {mode, &of->table, &page, of->book, of->place, of->coordinate};
+    return compare_coefficient(&question).items[0];
 }
 
 static uint64_t tally_of(uint64_t mode, const struct case_of_page *of)
 {
-    return compare_tally(mode, &of->table, &page).items[0];
+    return compare_tally(&(struct question){mode, &of->table, &page, of->book, 0, 0}).items[0];
 }
 
 static uint64_t lines_of(uint64_t mode, const struct case_of_page *of, uint64_t length)
 {
-    return compare_lines(&(struct question){mode, &of->table, &page, of->place, length}).items[0];
+    return compare_lines(&(struct question){mode, &of->table, &page, of->book, of->place, length}).items[0];
 }
 
 /* Each call in both modes, and without one. */
@@ -44,26 +46,27 @@ static uint64_t mode_at(uint64_t number)
     return any_mode[number] < MODES ? any_mode[number] : no_mode_by_chance();
 }
 
-/* Where there is no mode, 16 comes first. */
-static uint64_t with_mode(uint64_t mode, uint64_t refusal)
+/* Where there is no mode, 16 comes first; then 17 and 7, whatever the call. */
+static uint64_t first_of(uint64_t mode, int set, uint64_t rest)
 {
-    return mode < MODES ? refusal : 16;
+    if (mode >= MODES)
+        return 16;
+    return set & WRONG_BOOKS ? 17 : set & WRONG_TABLE ? 7 : rest;
 }
 
-/* The order of each call but take, as "tally | 16, 7, 4, 12". */
+/* The order of each call but take, as "tally | 16, 17, 7, 8, 4, 12". */
 static void compare_set_in(uint64_t mode, const struct case_of_page *wrong, int set)
 {
     const uint64_t cell = set & WRONG_CELL ? 12 : 0, cell_or_13 = set & WRONG_COORDINATE ? 13 : cell;
-    const uint64_t lengths = set & (WRONG_PAGE | WRONG_LENGTH) ? 4 : cell;
-    const uint64_t page_alone = set & WRONG_PAGE ? 4 : cell_or_13, table = set & WRONG_TABLE ? 7 : 0;
-    const uint64_t of_read = set & WRONG_PLACE ? 8 : lengths, of_coefficient = set & WRONG_PLACE ? 8 : page_alone;
-    const uint64_t of_tally = set & WRONG_PAGE ? 4 : cell;
+    const uint64_t lengths = set & (WRONG_PAGE | WRONG_LENGTH) ? 4 : cell, outside = set & (WRONG_BOOK | WRONG_PLACE);
+    const uint64_t of_read = outside ? 8 : lengths, of_coefficient = outside ? 8 : set & WRONG_PAGE ? 4 : cell_or_13;
+    const uint64_t of_tally = set & WRONG_BOOK ? 8 : set & WRONG_PAGE ? 4 : cell;
     const uint64_t text = set & WRONG_LENGTH ? chance_below(LINE_SPACE) : LINE_SPACE + chance_below(LINE_SPACE);
-    own_figure("refusal of a reading with faults", read_of(mode, wrong), with_mode(mode, table ? table : of_read));
+    own_figure("refusal of a reading with faults", read_of(mode, wrong), first_of(mode, set, of_read));
     own_figure("refusal of a coefficient with faults", coefficient_of(mode, wrong),
-               with_mode(mode, table ? table : of_coefficient));
-    own_figure("refusal of a tally with faults", tally_of(mode, wrong), with_mode(mode, table ? table : of_tally));
-    own_figure("refusal of lines with faults", lines_of(mode, wrong, text), with_mode(mode, table ? table : of_read));
+               first_of(mode, set, of_coefficient));
+    own_figure("refusal of a tally with faults", tally_of(mode, wrong), first_of(mode, set, of_tally));
+    own_figure("refusal of lines with faults", lines_of(mode, wrong, text), first_of(mode, set, of_read));
 }
 
 /* Take is last: it may change the page. */
@@ -115,14 +118,16 @@ static void compare_bad_tables(void)
         of.table = bad_table_by_chance((enum fault)(i / BAD_TABLES));
         for (uint64_t row = 0; row < of.table.size / ROW_SIZE; row++)
             places += two_bytes(of.table.bytes + row * ROW_SIZE + AT_PLACES);
-        page.size = CELL_SIZE * (places < MOST_PLACES ? places : MOST_PLACES);
+        page.books = books_by_chance();
+        page.size = CELL_SIZE * page.books * (places < MOST_PLACES ? places : MOST_PLACES);
+        of.book = is_wrong ? wrong_book(page.books) : chance_below(page.books);
         if (is_wrong)
             page.size = chance_below(2) ? 0 : chance_below(CELL_SIZE * MOST_PLACES);
         of.place = is_wrong ? wrong_place(MOST_PLACES) : chance_below(places < MOST_PLACES && places > 0 ? places : MOST_PLACES);
         of.out_length = is_wrong ? chance_below(MOST_OUTPUT + 1) : of.table.bytes[AT_LENGTH] % (MOST_LENGTH + 1);
         of.coordinate = is_wrong ? wrong_place(MOST_LENGTH) : 0;
         of.arrival.length = is_wrong ? chance_below(MOST_TAKEN + 1) : RECORD_SIZE;
-        set_place(&of.table, of.place % 65536, of.arrival.bytes);
+        set_place(&of.table, place_field(of.book, of.place) % 65536, of.arrival.bytes);
         if (i % 4 > 1)
             of.arrival.bytes[AT_ROW] = (uint8_t)chance_below(256);
         compare_all_calls(&of);
@@ -130,12 +135,13 @@ static void compare_bad_tables(void)
 }
 
 /* Every size of a table of good rows, and sizes that are good only where a number is cut. The page fits where the
-   table is good. */
+   table is good, and has one book. */
 static void compare_sizes(void)
 {
     const uint64_t cut[] = {65536 + 16, 65536 + 512, TWO_TO_32 + 16, TWO_TO_32 + 512};
     struct case_of_page of = right_case(&page, rows_by_chance(MOST_ROWS, 3));
     of.table = rows_by_chance(MOST_LENT_ROWS, 3);
+    of.book = 0;
     set_place(&of.table, of.place, of.arrival.bytes);
     for (uint64_t i = 0; i <= MOST_SIZE + ENTRIES(cut); i++) {
         of.table.size = i <= MOST_SIZE ? i : cut[i - MOST_SIZE - 1];

@@ -1,6 +1,7 @@
 /* The page: the whole case of docs/RULES.md, "Worked cases", also with codeword 20, and the same in rows of the other
-   selectors, in both modes; empty shapes; every codeword of small shells; and then all that is compared by chance, in
-   the files that are named so. The draws begin anew here, so that they do not depend on the comparisons before. */
+   selectors, in both modes; empty shapes; every codeword of small shells; and then all that is compared by chance, of
+   one book and of several, in the files that are named so. The draws begin anew here, so that they do not depend on the
+   comparisons before. */
 
 #include "../kinds/page_kinds.h"
 #include "comparisons.h"
@@ -55,7 +56,7 @@ static void hold_place(uint64_t mode, uint64_t place, uint64_t number)
 {
     const uint8_t selector = table.bytes[AT_SELECTOR];
     const int is_shown = wanted_in(mode, number).items[1] != UNREADABLE;
-    struct question question = {mode, &table, &page, place, LENGTH};
+    struct question question = {mode, &table, &page, 0, place, LENGTH};
     int32_t point[MOST_LENGTH];
     uint32_t bits;
     hold_list("answer of the whole case", mode, read_place(&question, point), number);
@@ -72,7 +73,7 @@ static void hold_place(uint64_t mode, uint64_t place, uint64_t number)
 /* As a whole and by its coefficients, one past the last of these too. */
 static void compare_whole_place(uint64_t place, uint64_t number)
 {
-    struct question question = {0, &table, &page, place, LENGTH};
+    struct question question = {0, &table, &page, 0, place, LENGTH};
     for (uint64_t mode = 0; mode < MODES; mode++)
         hold_place(mode, place, number);
     compare_reads(&question);
@@ -94,7 +95,7 @@ static void compare_whole_case(void)
     for (uint64_t place = 0; place < PLACES; place++)
         compare_whole_place(place, place);
     for (uint64_t mode = 0; mode < MODES; mode++) {
-        const struct list list = compare_tally(mode, &table, &page);
+        const struct list list = compare_tally(&(struct question){mode, &table, &page, 0, 0, 0});
         own_figure("tally of the whole case", memcmp(list.items, tally_wanted[mode], sizeof list.items) != 0, 0);
     }
 }
@@ -124,6 +125,8 @@ void compare_pages(void)
     compare_places();
     compare_tallies();
     compare_page_checks();
+    compare_books();
+    compare_books_apart();
     require_page_kinds();
     require(compared.modes, LEAST_IN_BOTH_MODES, "answers of a reader", "in both modes");
     require(compared.lines, LEAST_LINES, "calls of lines", "that are answered");

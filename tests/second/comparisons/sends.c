@@ -1,6 +1,6 @@
-/* Sending whole pages: the case of the rules, pages by chance of few places and of 4,096, each fault alone and
-   together with others, bad tables of every kind, and every length near the right one. See docs/RULES.md, "Sending a
-   page", "Refusal numbers" and "Order of checks". */
+/* Sending whole pages: the case of the rules, pages by chance of few places and of 4,096, of one book or one of
+   several, each fault alone and together with others, bad tables of every kind, and every length near the right one.
+   See docs/RULES.md, "Sending a page", "Books", "Refusal numbers" and "Order of checks". */
 
 #include "../draws/send_draws.h"
 #include "../kinds/send_kinds.h"
@@ -9,8 +9,8 @@
 #include <stdio.h>
 #include <string.h>
 
-enum { SEED = 65536, SMALL_PAGES = 5000, LARGE_PAGES = 100, SET_PAGES = 1000, BAD_TABLES = 150 };
-enum { LENGTH_PAGES = 20, MOST_SIZE = 600 };
+enum { SEED = 65536, SMALL_PAGES = 5000, LARGE_PAGES = 100, SET_PAGES = 250, BAD_TABLES = 150 };
+enum { LENGTH_PAGES = 100, MOST_SIZE = 600 };
 
 static struct sending right, wrong;
 
@@ -46,6 +46,7 @@ static void compare_case(uint8_t selector)
 static void compare_page_of(const struct table *table, int faults)
 {
     send_by_chance(&right, table);
+    give_books(&right.books, &right.book);
     compare_send_received(&right);
     for (int i = 0; i < faults; i++) {
         const uint64_t last = right.buffer_length / RECORD_SIZE - 1;
@@ -54,10 +55,13 @@ static void compare_page_of(const struct table *table, int faults)
     }
 }
 
+/* Of the small pages one in ten has more than 255 places in its first row. */
 static void compare_pages_by_chance(void)
 {
     for (int i = 0; i < SMALL_PAGES; i++) {
-        const struct table table = small_table_by_chance();
+        struct table table = small_table_by_chance();
+        if (i % 10 == 0)
+            set_two_bytes(table.bytes + AT_PLACES, 256 + chance_below(8));
         compare_page_of(&table, i % 4);
     }
     for (int i = 0; i < LARGE_PAGES; i++) {
@@ -66,17 +70,19 @@ static void compare_pages_by_chance(void)
     }
 }
 
-/* Every set of faults: "send | 7, 4, 11". */
+/* Every set of faults: "send | 17, 7, 8, 4, 11". */
 static void compare_sets(void)
 {
     for (int i = 0; i < SET_PAGES; i++) {
         const struct table table = small_table_by_chance();
         send_by_chance(&right, &table);
+        give_books(&right.books, &right.book);
         for (int set = 0; set < SEND_SETS; set++) {
             wrong = right;
             make_wrong(&wrong, set);
             const uint64_t rest = set & (WRONG_RUN | WRONG_BUFFER) ? 4 : set & WRONG_COEFFICIENT ? 11 : 0;
-            own_figure("refusal of a page with faults", compare_send(&wrong), set & WRONG_TABLE ? 7 : rest);
+            const uint64_t of_table = set & WRONG_TABLE ? 7 : set & WRONG_BOOK ? 8 : rest;
+            own_figure("refusal of a page with faults", compare_send(&wrong), set & WRONG_BOOKS ? 17 : of_table);
         }
     }
 }
@@ -89,7 +95,7 @@ static void compare_bad_tables(void)
     for (int i = 0; i < BAD_TABLES * FAULTS; i++) {
         wrong = right;
         if (i % 2)
-            make_wrong(&wrong, WRONG_RUN | WRONG_BUFFER | WRONG_COEFFICIENT);
+            make_wrong(&wrong, WRONG_BOOK | WRONG_RUN | WRONG_BUFFER | WRONG_COEFFICIENT);
         wrong.table = bad_table_by_chance((enum fault)(i / BAD_TABLES));
         own_figure("refusal of a page with a bad table", compare_send(&wrong), 7);
     }
@@ -111,7 +117,7 @@ static void compare_sizes(void)
     }
 }
 
-/* Every length of the run and of the buffer near the right one, and none. */
+/* Every length of the run and of the buffer near the right one, and others by chance. */
 static void compare_lengths(void)
 {
     for (int i = 0; i < LENGTH_PAGES; i++) {
@@ -124,6 +130,9 @@ static void compare_lengths(void)
             wrong.run_length = right.run_length;
             wrong.buffer_length = i % 2 ? right.buffer_length + off : right.buffer_length - (off < RECORD_SIZE ? off : RECORD_SIZE);
             own_figure("refusal of a page with another buffer", compare_send(&wrong), 4);
+            make_right(&wrong);
+            make_wrong(&wrong, off % 2 ? WRONG_RUN : WRONG_BUFFER);
+            own_figure("refusal of a page with another length", compare_send(&wrong), 4);
         }
     }
 }

@@ -19,7 +19,7 @@ struct answers {
 
 static void compare_codeword(const struct table *table, uint64_t number, uint64_t codeword, struct answers *plain)
 {
-    struct question question = {PLAIN_MODE, table, &page, 0, table->bytes[AT_LENGTH]};
+    struct question question = {PLAIN_MODE, table, &page, 0, 0, table->bytes[AT_LENGTH]};
     uint8_t cell[CELL_SIZE] = {STATE_HELD};
     int32_t point[MOST_LENGTH];
     write_record(cell + AT_RECORD, 0, 0, number, codeword);
@@ -31,7 +31,7 @@ static void compare_codeword(const struct table *table, uint64_t number, uint64_
     compare_reads(&question);
     for (question.number = 0; question.number < table->bytes[AT_LENGTH]; question.number++)
         compare_coefficients(&question);
-    compare_both_tallies(table, &page);
+    compare_both_tallies(&question);
     question.number = LINE_SPACE;
     compare_both_lines(&question);
     codewords++;

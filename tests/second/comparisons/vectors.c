@@ -1,5 +1,6 @@
 /* Quantizing vectors into records: the cases of the rules, every place of some tables, and vectors by chance on good
-   tables, near every tie or anywhere; docs/RULES.md, "Quantizing into a record" and "Worked cases". */
+   tables, near every tie or anywhere, in one book or one of several; docs/RULES.md, "Quantizing into a record", "Books"
+   and "Worked cases". */
 
 #include "../kinds/kinds.h"
 #include "comparisons.h"
@@ -74,7 +75,8 @@ uint32_t compare_vector(const struct vector *vector)
 static void compare_cases(void)
 {
     for (uint64_t i = 0; i < ENTRIES(cases); i++) {
-        struct vector vector = {.table = {.size = ROW_SIZE}, .length = cases[i].row[AT_LENGTH], .record_length = RECORD_SIZE};
+        struct vector vector = {.table = {.size = ROW_SIZE}, .books = 1, .record_length = RECORD_SIZE};
+        vector.length = cases[i].row[AT_LENGTH];
         for (int j = 0; j < ROW_SIZE; j++)
             vector.table.bytes[j] = cases[i].row[j];
         for (uint64_t j = 0; j < vector.length; j++)
@@ -88,12 +90,13 @@ static void compare_cases(void)
     }
 }
 
-/* All places of a table, one after the other. */
+/* All places of a table, one after the other, each in a book by chance. */
 static void compare_all_places(void)
 {
     struct vector vector = {.table = good_table_by_chance()};
     const uint64_t places = judge(vector.table.bytes, vector.table.size).places;
     for (vector.place = 0; vector.place < places; vector.place++) {
+        give_books(&vector.books, &vector.book);
         coefficients_by_chance(&vector);
         compare_vector(&vector);
     }
@@ -108,6 +111,7 @@ void compare_vectors(void)
         struct vector vector = {.table = good_table_by_chance()};
         for (int j = 0; j < VECTORS_OF_TABLE; j++) {
             place_by_chance(&vector);
+            give_books(&vector.books, &vector.book);
             coefficients_by_chance(&vector);
             compare_vector(&vector);
         }

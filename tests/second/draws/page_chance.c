@@ -1,5 +1,5 @@
 /* Pairing tables for pages, records, cells and pages by chance: good ones, and all that can be wrong with them. See
-   docs/RULES.md, "The page" and "Quantizing into a record". */
+   docs/RULES.md, "The page", "Books" and "Quantizing into a record". */
 
 #include "page_draws.h"
 
@@ -134,27 +134,29 @@ static void spoil_radius_number(const uint8_t *row, uint8_t *record)
 }
 
 /* A record that claims a place of a good table. Its radius number is at times not in the row. */
-void record_by_chance(const struct table *table, uint64_t place, uint8_t *record)
+void record_by_chance(const struct table *table, uint64_t field, uint8_t *record)
 {
-    const uint8_t *fields = row_at(table, place);
+    const uint64_t row = row_of(table, place_in(field));
+    const uint8_t *fields = table->bytes + row * ROW_SIZE;
     const uint64_t number = chance_below(fields[AT_NUMBER_OF_RADII]);
-    write_record(record, place, row_of(table, place), number, codeword_by_chance(shell_of(fields, number)));
+    write_record(record, field, row, number, codeword_by_chance(shell_of(fields, number)));
     if (chance_below(8) == 0)
         spoil_radius_number(fields, record);
 }
 
-/* Gives a record a place, and the row of that place. */
-void set_place(const struct table *table, uint64_t place, uint8_t *record)
+/* Gives a record a place in a book, and the row of that place. */
+void set_place(const struct table *table, uint64_t field, uint8_t *record)
 {
-    set_two_bytes(record + AT_PLACE, place);
-    record[AT_ROW] = (uint8_t)row_of(table, place);
+    set_two_bytes(record + AT_PLACE, field);
+    record[AT_ROW] = (uint8_t)row_of(table, place_in(field));
 }
 
 /* Another row than that of a place: a neighbour, often the one that begins behind the place; one of the table; or one
    that is the same in its low bits, or in all bits but one. */
-uint8_t foreign_row(const struct table *table, uint64_t place)
+uint8_t foreign_row(const struct table *table, uint64_t field)
 {
-    const uint64_t row = row_of(table, place), rows = table->size / ROW_SIZE, next = row_of(table, place + 1);
+    const uint64_t place = place_in(field), row = row_of(table, place), next = row_of(table, place + 1);
+    const uint64_t rows = table->size / ROW_SIZE;
     const uint64_t any = other_than(row, 255), of_table = rows > 1 ? other_than(row, rows - 1) : any;
     const uint64_t beside = row < next && next < rows ? next : row + 255, bit = (uint64_t)1 << chance_below(8);
     const uint64_t others[] = {row + 1, row + 255, beside, of_table, row + MOST_ROWS * (1 + chance_below(7)), row ^ bit, any};
@@ -162,28 +164,31 @@ uint8_t foreign_row(const struct table *table, uint64_t place)
 }
 
 /* A cell that is not at fault: empty or contested, with zeros or not, or held. */
-void cell_by_chance(const struct table *table, uint64_t place, uint8_t *cell)
+void cell_by_chance(const struct table *table, uint64_t field, uint8_t *cell)
 {
     const uint8_t states[] = {STATE_EMPTY, STATE_EMPTY, STATE_CONTESTED, STATE_CONTESTED, STATE_HELD};
     const uint64_t choice = chance_below(8), is_zeros = choice == 0 || choice == 2, is_any = choice < 4 && chance_below(2);
     cell[AT_STATE] = states[choice < 4 ? choice : 4];
-    record_by_chance(table, place, cell + AT_RECORD);
+    record_by_chance(table, field, cell + AT_RECORD);
     for (uint64_t i = AT_RECORD; i < CELL_SIZE && (is_zeros || is_any); i++)
         cell[i] = is_zeros ? 0 : (uint8_t)chance_below(256);
 }
 
-/* Gives a record a place number of which the high byte, the low byte or both are changed. */
-static void spoil_place_number(uint8_t *record)
+/* Gives a record a place field of which the high byte, the low byte, both, or the book alone are changed. */
+static void spoil_place_field(uint8_t *record)
 {
-    const uint64_t changed = 1 + chance_below(3);
-    if (changed != 1)
+    const uint64_t changed = chance_below(4);
+    if (changed == 0)
+        change_book(record);
+    if (changed > 1)
         record[AT_PLACE] ^= (uint8_t)(chance_below(2) ? 1 : 1 + chance_below(255));
-    if (changed != 2)
+    if (changed == 1 || changed == 3)
         record[AT_PLACE + 1] ^= (uint8_t)(chance_below(2) ? 1 : 1 + chance_below(255));
 }
 
-/* Makes a cell be at fault: another state, or held with another place, another row, or both. */
-void spoil_cell(const struct table *table, uint64_t place, uint8_t *cell)
+/* Makes a cell be at fault: another state, or held with another book, another place, another row, or several of
+   these. */
+void spoil_cell(const struct table *table, uint64_t field, uint8_t *cell)
 {
     const uint8_t states[] = {3, 4, 127, 128, 129, 130, 254, 255};
     const uint64_t choice = chance_below(10);
@@ -193,37 +198,38 @@ void spoil_cell(const struct table *table, uint64_t place, uint8_t *cell)
         return;
     }
     cell[AT_STATE] = STATE_HELD;
-    set_place(table, place, record);
+    set_place(table, field, record);
     if (choice < 6)
-        spoil_place_number(record);
+        spoil_place_field(record);
     if (choice > 4)
-        record[AT_ROW] = foreign_row(table, place);
+        record[AT_ROW] = foreign_row(table, field);
 }
 
-/* Gives a place a new cell, of which one in so many is at fault; none for 0. */
-void draw_cell(struct page *page, const struct table *table, uint64_t place, uint64_t one_bad_in)
+/* Gives a place in a book a new cell, of which one in so many is at fault; none for 0. */
+void draw_cell(struct page *page, const struct table *table, uint64_t field, uint64_t one_bad_in)
 {
     uint8_t cell[CELL_SIZE];
-    cell_by_chance(table, place, cell);
+    cell_by_chance(table, field, cell);
     if (one_bad_in > 0 && chance_below(one_bad_in) == 0)
-        spoil_cell(table, place, cell);
-    set_cell(page, place, cell);
+        spoil_cell(table, field, cell);
+    set_cell(page, field, cell);
 }
 
-/* All cells of a good table's page. */
-void page_by_chance(struct page *page, const struct table *table, uint64_t one_bad_in)
+/* All cells of a good table's page, of so many books. */
+void pages_by_chance(struct page *page, const struct table *table, uint64_t books, uint64_t one_bad_in)
 {
-    begin_page(page, judge(table->bytes, table->size).places);
-    for (uint64_t place = 0; place < page->places; place++)
-        draw_cell(page, table, place, one_bad_in);
+    begin_books(page, judge(table->bytes, table->size).places, books);
+    for (uint64_t book = 0; book < books; book++)
+        for (uint64_t place = 0; place < page->places; place++)
+            draw_cell(page, table, place_field(book, place), one_bad_in);
 }
 
-/* A record for a place: what its cell has, the same but for one byte, or any. Its row is mostly that of the place, and
-   else another one, or what it has come to be. */
-struct arrival arrival_by_chance(const struct table *table, const struct page *page, uint64_t place)
+/* A record for a place in a book: what its cell has, the same but for one byte, or any. Its row is mostly that of the
+   place, and else another one, or what it has come to be. */
+struct arrival arrival_by_chance(const struct table *table, const struct page *page, uint64_t field)
 {
     struct arrival arrival = {.length = RECORD_SIZE};
-    const uint8_t *record = cell_at(page, place) + AT_RECORD;
+    const uint8_t *record = cell_at(page, field) + AT_RECORD;
     const uint64_t choice = chance_below(8), byte = AT_ROW + chance_below(RECORD_SIZE - AT_ROW), bit = chance_below(8);
     const uint64_t row = chance_below(16);
     for (uint64_t i = 0; i < RECORD_SIZE; i++)
@@ -231,31 +237,23 @@ struct arrival arrival_by_chance(const struct table *table, const struct page *p
     if (choice < 3)
         arrival.bytes[byte] ^= (uint8_t)(chance_below(2) ? (uint64_t)1 << bit : 1 + chance_below(255));
     if (choice > 4)
-        record_by_chance(table, place, arrival.bytes);
-    set_two_bytes(arrival.bytes + AT_PLACE, place);
+        record_by_chance(table, field, arrival.bytes);
+    set_two_bytes(arrival.bytes + AT_PLACE, field);
     if (row < 2)
-        arrival.bytes[AT_ROW] = foreign_row(table, place);
+        arrival.bytes[AT_ROW] = foreign_row(table, field);
     if (row > 3)
-        set_place(table, place, arrival.bytes);
+        set_place(table, field, arrival.bytes);
     return arrival;
 }
 
-/* A place number of two bytes that is not in the table, often one that is where a number is cut or its bytes
-   are exchanged. */
-uint64_t place_past_end(uint64_t places)
-{
-    const uint64_t place = chance_below(places), exchanged = place % 256 * 256 + place / 256;
-    const uint64_t past[] = {places, places + 1, MOST_PLACES + place, 65535, exchanged, place % 256 + 256 * chance_below(256)};
-    const uint64_t choice = chance_below(ENTRIES(past) + 1);
-    return choice < ENTRIES(past) && past[choice] >= places ? past[choice] : places + chance_below(65536 - places);
-}
-
-/* Another size than 9 x places: near it, of other cells, or right only where a number is cut. The last the call
-   may not look at. */
+/* Another size than 9 x places x books: near it, of other cells, of another number of books, or right only where a
+   number is cut. Sizes that are larger the call may not look at. */
 uint64_t wrong_page_size(const struct page *page)
 {
-    const uint64_t right = CELL_SIZE * page->places, shorter = chance_below(right);
-    const uint64_t near[] = {right - 1, right + 1, right - CELL_SIZE, right + CELL_SIZE};
-    const uint64_t other[] = {0, shorter, RECORD_SIZE * page->places, page->places, right + 65536, right + TWO_TO_32};
+    const uint64_t right = right_size(page), cells = cells_of(page), shorter = chance_below(right);
+    const uint64_t book = CELL_SIZE * page->places;
+    const uint64_t near[] = {right - 1, right + 1, right - CELL_SIZE, right + CELL_SIZE, right - book, right + book};
+    const uint64_t other[] = {0, shorter, RECORD_SIZE * cells, cells, right + 65536, right + TWO_TO_32,
+                              page->filled == 1 ? MOST_BOOKS * book : book};
     return chance_below(2) ? near[chance_below(ENTRIES(near))] : other[chance_below(ENTRIES(other))];
 }

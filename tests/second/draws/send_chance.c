@@ -1,5 +1,5 @@
 /* Runs of coefficients by chance, for whole pages of good tables: right ones, and all that can be wrong with them.
-   See docs/RULES.md, "Sending a page". */
+   See docs/RULES.md, "Sending a page" and "Books". */
 
 #include "send_draws.h"
 
@@ -19,12 +19,14 @@ void put_vector(struct sending *to, const struct vector *vector)
         coefficients[i] = vector->coefficients[i];
 }
 
-/* The lengths that are right for a good table. */
+/* The lengths that are right for a good table, and one book. */
 void make_right(struct sending *to)
 {
     const uint64_t places = judge(to->table.bytes, to->table.size).places;
     to->run_length = coordinates_before(&to->table, places);
     to->buffer_length = RECORD_SIZE * places;
+    to->books = 1;
+    to->book = 0;
 }
 
 /* Usable coefficients for every place of a good table, and the right lengths. */
@@ -78,11 +80,13 @@ uint64_t wrong_buffer_length(const struct sending *right)
 /* Makes wrong of a right call what the set says. At most three places get unusable coefficients. */
 void make_wrong(struct sending *to, int set)
 {
-    const uint64_t run_length = wrong_run_length(to), buffer_length = wrong_buffer_length(to);
+    const uint64_t run_length = wrong_run_length(to), buffer_length = wrong_buffer_length(to), books = to->books;
     for (uint64_t spoilt = 1 + chance_below(3); set & WRONG_COEFFICIENT && spoilt > 0; spoilt--)
         spoil_coefficients(to, some_place(&to->table));
     to->run_length = set & WRONG_RUN ? run_length : to->run_length;
     to->buffer_length = set & WRONG_BUFFER ? buffer_length : to->buffer_length;
+    to->books = set & WRONG_BOOKS ? no_books_by_chance(books) : books;
+    to->book = set & WRONG_BOOK ? wrong_book(books) : to->book;
     if (set & WRONG_TABLE)
         spoil_table(&to->table);
 }

@@ -6,8 +6,8 @@
 #include "../rules/sending.h"
 #include "page_draws.h"
 
-/* What is wrong with a call of send, as the bits of a set; WRONG_TABLE is that of the page. */
-enum { WRONG_RUN = 2, WRONG_BUFFER = 4, WRONG_COEFFICIENT = 8, SEND_SETS = 16 };
+/* What is wrong with a call of send, as the bits of a set; the lower three are those of the page. */
+enum { WRONG_RUN = 8, WRONG_BUFFER = 16, WRONG_COEFFICIENT = 32, SEND_SETS = 64 };
 
 /* send_chance.c: all that the call is lent, and what can be wrong with it */
 void send_by_chance(struct sending *to, const struct table *table);

@@ -1,6 +1,7 @@
 /* How many vectors of each kind were compared with quantize. A kind is told from what the program's own quantizer made
    of a vector, not from how it was drawn. The program ends with an error of its own if there are too few of one, so
-   that the comparison cannot become empty. See docs/RULES.md, "Quantizing into a record" and "Refusal numbers". */
+   that the comparison cannot become empty. See docs/RULES.md, "Quantizing into a record", "Books" and "Refusal
+   numbers". */
 
 #include "kinds.h"
 #include "lent.h"
@@ -43,6 +44,11 @@ static const char *const names[KINDS] = {
     [LAST_OF_ROW] = "of the last place of a row that is not the last",
     [LAST_OF_TABLE] = "of the last place of the table",
     [PLACE_PAST_255] = "of a place above 255",
+    [OF_ONE_BOOK] = "with one book",
+    [OF_SIXTEEN_BOOKS] = "with 16 books",
+    [BOOK_PAST_0] = "of a book above 0",
+    [LAST_OF_BOOKS] = "of the last of several books",
+    [BOOK_AND_PLACE_PAST_255] = "of a book above 0 and a place above 255",
     [STEP_1] = "with step 1",
     [STEP_255] = "with step 255",
     [STEP_256] = "with step 256",
@@ -64,6 +70,13 @@ static const char *const names[KINDS] = {
     [BAD_BEFORE] = "whose row is behind the first bad row",
     [BAD_AT] = "whose row is the first bad row",
     [BAD_BEHIND] = "whose row is before the first bad row",
+    [NO_SUCH_BOOK] = "refused with 8 for the book alone",
+    [BOOK_OF_NUMBER] = "refused with 8 whose book is the number of books",
+    [BOOK_CUT] = "refused with 8 whose book is there where it is cut to 16 bits",
+    [BOOKS_AND_TABLE] = "refused with 17 that have a bad table",
+    [BOOKS_OF_NONE] = "refused with 17 for 0 books",
+    [BOOKS_OF_SEVENTEEN] = "refused with 17 for 17 books",
+    [BOOKS_FROM_2_32] = "refused with 17 for 2^32 books or more",
 };
 
 static uint64_t kinds[KINDS], lengths[MOST_LENGTH + 1], numbers[MOST_RADII], rows[MOST_ROWS], faulty[MOST_LENGTH];
@@ -102,6 +115,30 @@ static void note_row(const struct vector *vector, const struct quantizing *made)
     ++*seen(made->shell);
 }
 
+/* How many books there are, and which one it is. */
+static void note_book(const struct vector *vector)
+{
+    note_if(vector->books == 1, OF_ONE_BOOK);
+    note_if(vector->books == MOST_BOOKS, OF_SIXTEEN_BOOKS);
+    note_if(vector->book > 0, BOOK_PAST_0);
+    note_if(vector->book > 0 && vector->book == vector->books - 1, LAST_OF_BOOKS);
+    note_if(vector->book > 0 && vector->place > 255, BOOK_AND_PLACE_PAST_255);
+}
+
+/* Refusals 8 and 17. */
+static void note_no_book(const struct vector *vector, uint32_t refusal)
+{
+    const struct judgment judgment = judge(vector->table.bytes, vector->table.size);
+    const int is_8 = refusal == 8 && vector->book >= vector->books, is_17 = refusal == 17;
+    note_if(is_8 && vector->place < judgment.places, NO_SUCH_BOOK);
+    note_if(is_8 && vector->book == vector->books, BOOK_OF_NUMBER);
+    note_if(is_8 && vector->book % 65536 < vector->books, BOOK_CUT);
+    note_if(is_17 && judgment.faults, BOOKS_AND_TABLE);
+    note_if(is_17 && vector->books == 0, BOOKS_OF_NONE);
+    note_if(is_17 && vector->books == MOST_BOOKS + 1, BOOKS_OF_SEVENTEEN);
+    note_if(is_17 && vector->books >= TWO_TO_32, BOOKS_FROM_2_32);
+}
+
 /* Refusal 11: which coefficient was the first one, and which numbers there are behind it. */
 static void note_unusable(const struct vector *vector, uint64_t coordinate)
 {
@@ -135,6 +172,7 @@ static void note_bad_table(const struct vector *vector, uint64_t bad_row)
 void note_kinds(const struct vector *vector, const struct quantizing *made)
 {
     refusals[made->answer.refusal]++;
+    note_no_book(vector, made->answer.refusal);
     if (made->answer.refusal == 7)
         note_bad_table(vector, made->answer.value);
     if (made->answer.refusal == 11)
@@ -147,6 +185,7 @@ void note_kinds(const struct vector *vector, const struct quantizing *made)
         note_units(made);
     note_coefficients(vector, made);
     note_row(vector, made);
+    note_book(vector);
 }
 
 void require_kind(enum kind kind, uint64_t least)
@@ -178,6 +217,7 @@ void require_kinds(void)
     require_each(refusals, 4, 4, "vectors refused with");
     require_each(refusals, 7, 8, "vectors refused with");
     require_each(refusals, 11, 11, "vectors refused with");
+    require_each(refusals, 17, 17, "vectors refused with");
     require(kinds[ONE_UNIT] + kinds[MORE_UNITS], refusals[0] / 4, "vectors", "with a remainder that gets one more");
     for_each_numbering(require_vectors);
     printf("kinds: %d kinds of vectors at least %d times each, ", KINDS, LEAST);

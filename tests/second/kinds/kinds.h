@@ -41,6 +41,11 @@ enum kind {
     LAST_OF_ROW,
     LAST_OF_TABLE,
     PLACE_PAST_255,
+    OF_ONE_BOOK,
+    OF_SIXTEEN_BOOKS,
+    BOOK_PAST_0,
+    LAST_OF_BOOKS,
+    BOOK_AND_PLACE_PAST_255,
     STEP_1,
     STEP_255,
     STEP_256,
@@ -62,6 +67,13 @@ enum kind {
     BAD_BEFORE,
     BAD_AT,
     BAD_BEHIND,
+    NO_SUCH_BOOK,
+    BOOK_OF_NUMBER,
+    BOOK_CUT,
+    BOOKS_AND_TABLE,
+    BOOKS_OF_NONE,
+    BOOKS_OF_SEVENTEEN,
+    BOOKS_FROM_2_32,
     KINDS
 };
 

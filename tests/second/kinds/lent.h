@@ -72,6 +72,7 @@ void compare_taking(const char *call, const struct taking *taking, int lent, con
    the table and the page after calls that may not write there */
 const uint8_t *lent_table(const struct table *table, const struct table_room *room, int by_null);
 const uint8_t *lent_page(const struct page *page, int by_null);
+void print_book_asked(const char *name, const struct question *question);
 void print_question(const char *name, const struct question *question, const char *what);
 void compare_lent(const char *name, const struct question *question, const struct table_room *table);
 

@@ -50,7 +50,8 @@ static void take_over_record(struct room *room, const struct answer *expected)
 static void print_vector(const char *name, const struct vector *vector)
 {
     print_table(name, &vector->table);
-    printf(", place %lu, %lu coefficients", vector->place, vector->length);
+    printf(", book %lu of %lu, place %lu, ", vector->book, vector->books, vector->place);
+    printf("%lu coefficients", vector->length);
     for (uint64_t i = 0; i < vector->length && i < MOST_LENT; i++)
         printf(" %08x", vector->coefficients[i]);
     printf(", record of %lu", vector->record_length);
@@ -83,7 +84,8 @@ static void call_both(const char *name, struct quantize_calls calls, const struc
     take_over_record(&wanted, expected);
     const int no_table = by_null && vector->table.size == 0, no_coefficients = by_null && vector->length == 0;
     const int no_record = by_null && vector->record_length == 0;
-    const uint32_t got = calls.refusal(no_table ? 0 : room.table + GUARDS, vector->table.size, vector->place,
+    const uint32_t got = calls.refusal(no_table ? 0 : room.table + GUARDS, vector->table.size, vector->books,
+                                       vector->book, vector->place,
                                        no_coefficients ? 0 : room.coefficients.floats + GUARDS, vector->length,
                                        no_record ? 0 : room.record + GUARDS, vector->record_length);
     if (got != expected->refusal) {
@@ -91,7 +93,8 @@ static void call_both(const char *name, struct quantize_calls calls, const struc
         differ(as_answer(expected->refusal), as_answer(got));
     }
     compare_rooms(name, vector, &room, &wanted);
-    const uint64_t got_value = calls.value(no_table ? 0 : other.table + GUARDS, vector->table.size, vector->place,
+    const uint64_t got_value = calls.value(no_table ? 0 : other.table + GUARDS, vector->table.size, vector->books,
+                                           vector->book, vector->place,
                                            no_coefficients ? 0 : other.coefficients.floats + GUARDS, vector->length,
                                            no_record ? 0 : other.record + GUARDS, vector->record_length);
     if (got_value != expected->value) {

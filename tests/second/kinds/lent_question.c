@@ -15,12 +15,20 @@ const uint8_t *lent_page(const struct page *page, int by_null)
     return by_null && page->size == 0 ? 0 : page->lent[0] + GUARDS;
 }
 
-void print_question(const char *name, const struct question *question, const char *what)
+/* Without the place and the number, which a tally has not. */
+void print_book_asked(const char *name, const struct question *question)
 {
     print_table(name, question->table);
-    printf(", mode %lu, page of %lu bytes, place %lu", question->mode, question->page->size, question->place);
-    if (question->place < question->page->places)
-        print_bytes(", its cell", cell_at(question->page, question->place), CELL_SIZE);
+    printf(", mode %lu, book %lu of %lu, ", question->mode, question->book, question->page->books);
+    printf("page of %lu bytes", question->page->size);
+}
+
+void print_question(const char *name, const struct question *question, const char *what)
+{
+    print_book_asked(name, question);
+    printf(", place %lu", question->place);
+    if (question->book < question->page->filled && question->place < question->page->places)
+        print_bytes(", its cell", cell_asked(question, question->place), CELL_SIZE);
     printf(", %s %lu", what, question->number);
 }
 

@@ -40,7 +40,7 @@ static uint64_t call_read(const char *name, read_call *call, const struct questi
         const uint64_t which = i < ITEMS_OF_READING ? i : any_item();
         struct point_room room = garbage();
         const uint64_t got = call(question->mode, lent_table(question->table, &table, by_null), question->table->size,
-                                  lent_page(page, by_null), page->size, question->place,
+                                  page->books, question->book, lent_page(page, by_null), page->size, question->place,
                                   by_null && question->number == 0 ? 0 : room.cells + GUARDS, question->number, which);
         if (got != item_of(expected, which)) {
             print_question(name, question, "output of");
@@ -70,7 +70,8 @@ static uint64_t call_coefficient(const char *name, coefficient_call *call, const
     for (uint64_t i = 0; i <= ITEMS_OF_READING; i++) {
         const uint64_t which = i < ITEMS_OF_READING ? i : any_item();
         const uint64_t got = call(question->mode, lent_table(question->table, &table, by_null), question->table->size,
-                                  lent_page(page, by_null), page->size, question->place, question->number, which);
+                                  page->books, question->book, lent_page(page, by_null), page->size, question->place,
+                                  question->number, which);
         if (got != item_of(expected, which)) {
             print_question(name, question, "coordinate");
             wrong_item(expected, which, got);
@@ -85,7 +86,8 @@ static uint64_t call_value(const char *name, value_call *call, const struct ques
     struct table_room table = table_among_guards(question->table);
     const struct page *page = question->page;
     const uint32_t got = bits_of_float(call(question->mode, lent_table(question->table, &table, by_null), question->table->size,
-                                            lent_page(page, by_null), page->size, question->place, question->number));
+                                            page->books, question->book, lent_page(page, by_null), page->size,
+                                            question->place, question->number));
     if (got != bits) {
         print_question(name, question, "coordinate");
         printf(", the value: expected the bits %08x, got %08x\n", bits, got);
@@ -106,30 +108,29 @@ uint64_t expect_coefficient(const char *name, coefficient_call *call, value_call
 }
 
 /* A call for each item. */
-static uint64_t call_tally(const char *name, tally_call *call, uint64_t mode, const struct table *table, const struct page *page,
-                           struct list expected, int by_null)
+static uint64_t call_tally(const char *name, tally_call *call, const struct question *question, struct list expected,
+                           int by_null)
 {
-    struct table_room room = table_among_guards(table);
-    const struct question whole = {.mode = mode, .table = table, .page = page, .place = UINT64_MAX};
+    struct table_room table = table_among_guards(question->table);
+    const struct page *page = question->page;
     for (uint64_t i = 0; i <= ITEMS; i++) {
         const uint64_t which = i < ITEMS ? i : any_item();
-        const uint64_t got = call(mode, lent_table(table, &room, by_null), table->size, lent_page(page, by_null), page->size, which);
+        const uint64_t got = call(question->mode, lent_table(question->table, &table, by_null), question->table->size,
+                                  page->books, question->book, lent_page(page, by_null), page->size, which);
         if (got != item_of(expected, which)) {
-            print_table(name, table);
-            printf(", mode %lu, page of %lu bytes", mode, page->size);
+            print_book_asked(name, question);
             wrong_item(expected, which, got);
         }
     }
-    compare_lent(name, &whole, &room);
+    compare_lent(name, question, &table);
     return ITEMS + 1;
 }
 
-uint64_t expect_tally(const char *name, tally_call *call, uint64_t mode, const struct table *table, const struct page *page,
-                      struct list expected)
+uint64_t expect_tally(const char *name, tally_call *call, const struct question *question, struct list expected)
 {
-    const int is_any_empty = table->size == 0 || page->size == 0;
+    const int is_any_empty = question->table->size == 0 || question->page->size == 0;
     uint64_t calls = 0;
     for (int by_null = 0; by_null <= is_any_empty; by_null++)
-        calls += call_tally(name, call, mode, table, page, expected, by_null);
+        calls += call_tally(name, call, question, expected, by_null);
     return calls;
 }

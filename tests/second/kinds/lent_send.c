@@ -73,7 +73,7 @@ static void lend(const struct sending *sending, const struct sent *expected)
 static void print_sending(const struct sending *sending)
 {
     print_table(named, &sending->table);
-    printf(", %lu coefficients", sending->run_length);
+    printf(", book %lu of %lu, %lu coefficients", sending->book, sending->books, sending->run_length);
     for (uint64_t i = 0; i < sending->run_length && i < MOST_PRINTED; i++)
         printf(" %08x", sending->run[i]);
     printf(", buffer of %lu", sending->buffer_length);
@@ -126,7 +126,8 @@ static void call_send(send_call *call, const struct sending *sending, const stru
     const uint64_t table_size = sending->table.size, run_length = sending->run_length, buffer_length = sending->buffer_length;
     for (uint64_t which = 0; which <= SENT_ITEMS; which++) {
         lend(sending, expected);
-        const uint64_t got = call(by_null && table_size == 0 ? 0 : room.table.bytes, table_size,
+        const uint64_t got = call(by_null && table_size == 0 ? 0 : room.table.bytes, table_size, sending->books,
+                                  sending->book,
                                   by_null && run_length == 0 ? 0 : room.run.floats + GUARDS, run_length,
                                   by_null && buffer_length == 0 ? 0 : room.buffer + GUARDS, buffer_length, which);
         if (got != expected->list.items[which])

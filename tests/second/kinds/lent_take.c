@@ -19,16 +19,16 @@ struct arrival_room arrival_among_guards(const struct arrival *arrival)
 /* The cell of the place that a record names, zeros where there is none. */
 void copy_named(const struct page *page, const struct arrival *arrival, uint8_t *cell)
 {
-    const uint64_t place = two_bytes(arrival->bytes + AT_PLACE);
+    const uint64_t field = field_in(arrival->bytes);
     for (uint64_t i = 0; i < CELL_SIZE; i++)
-        cell[i] = place < page->places ? cell_at(page, place)[i] : 0;
+        cell[i] = has_cell(page, field) ? cell_at(page, field)[i] : 0;
 }
 
 void print_taking(const char *call, const struct taking *taking)
 {
     const struct arrival *arrival = taking->arrival;
     print_table(call, taking->table);
-    printf(", page of %lu bytes", taking->page->size);
+    printf(", %lu books, page of %lu bytes", taking->page->books, taking->page->size);
     if (taking->before)
         print_bytes(", its cell before", taking->before, CELL_SIZE);
     printf(", lent %lu bytes", arrival->length);

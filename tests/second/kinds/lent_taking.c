@@ -12,7 +12,7 @@ static void ask_take(const char *name, take_call *call, const struct taking *tak
     struct table_room table = table_among_guards(taking->table);
     struct arrival_room room = arrival_among_guards(arrival);
     struct page *page = taking->page;
-    const uint64_t got = call(lent_table(taking->table, &table, by_null), taking->table->size,
+    const uint64_t got = call(lent_table(taking->table, &table, by_null), taking->table->size, page->books,
                               by_null && page->size == 0 ? 0 : page->lent[lent] + GUARDS, page->size,
                               by_null && arrival->length == 0 ? 0 : room.bytes, arrival->length, which);
     if (got != item_of(taking->expected, which)) {

@@ -1,13 +1,14 @@
 /* How many comparisons of each kind there were with the calls of the page. A kind is told from what the program's own
    rules made of a case, not from how it was drawn. The program ends with an error of its own if there are too few of
-   one, so that the comparison cannot become empty. See docs/RULES.md, "The page" and "Refusal numbers". */
+   one, so that the comparison cannot become empty. See docs/RULES.md, "The page", "Books" and "Refusal numbers". */
 
 #include "lent.h"
 #include "page_kinds.h"
 
 #include <stdio.h>
 
-/* The second is wanted for each shell, for each state, for each mode that is none, and for large numbers of places. */
+/* The second is wanted for each shell, for each state, for each mode that is none, for each number of books that there
+   may not be, and for large numbers of places. */
 enum { LEAST = 300, LEAST_OF_EACH = 100, RECORD_LENGTHS = MOST_TAKEN + 1 };
 
 static uint64_t kinds[COUNTED_FOR][PAGE_KINDS], faults[COUNTED_FOR][FAULTS], states[COUNTED_FOR][256];
@@ -15,7 +16,7 @@ static uint64_t other_bytes[RECORD_SIZE], record_lengths[RECORD_LENGTHS], remain
 static uint64_t shells[COUNTED_FOR][READINGS + 2][SELECTORS][MOST_LENGTH + 1][MOST_RADIUS + 1];
 static uint64_t selected[COUNTED_FOR][READINGS][SELECTORS];
 static uint64_t tallied[MODES][READINGS], tallied_past_255[MODES][READINGS], tallied_alone[MODES][READINGS];
-static uint64_t without_mode[COUNTED_FOR][NO_MODES];
+static uint64_t without_mode[COUNTED_FOR][NO_MODES], without_books[COUNTED_FOR][NO_BOOKS];
 
 /* Of a call with a mode: what it is counted for in that mode. */
 enum page_call call_in(enum page_call call, uint64_t mode)
@@ -66,6 +67,12 @@ void note_no_mode(enum page_call call, uint64_t mode)
 {
     for (uint64_t i = 0; i < NO_MODES; i++)
         without_mode[call][i] += mode == no_modes[i];
+}
+
+void note_no_books(enum page_call call, uint64_t books)
+{
+    for (uint64_t i = 0; i < NO_BOOKS; i++)
+        without_books[call][i] += books == no_books[i];
 }
 
 /* Unreadable 15 stands behind the answers, which have unreadable 14, and unreadable 6 behind that. */
@@ -149,6 +156,8 @@ static void require_numbers(enum page_call call)
         require_number(remainders[i], LEAST, "runs whose last part has a length of, modulo 8,", i);
     for (uint64_t i = 0; call >= NO_MODE_READ && call <= NO_MODE_LINES && i < NO_MODES; i++)
         require_number(without_mode[call][i], LEAST_OF_EACH, "calls refused with 16 for the mode", no_modes[i]);
+    for (uint64_t i = 0; call < PAGE_CALLS && call != COLLECT && i < NO_BOOKS; i++)
+        require_number(without_books[call][i], LEAST_OF_EACH, "calls refused with 17, of books", no_books[i]);
     if (call == TALLY || call == PLAIN_TALLY)
         require_tallied(call);
 }

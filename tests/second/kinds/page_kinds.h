@@ -4,8 +4,7 @@
 #ifndef SECOND_PAGE_KINDS_H
 #define SECOND_PAGE_KINDS_H
 
-#include "../draws/draws.h"
-#include "../rules/page.h"
+#include "../draws/page_draws.h"
 
 /* What a kind is counted for: the calls, those with a mode in mending mode, in plain mode and with a mode that there is
    not; the records that take stores in an empty place, and those that it refuses with 9. */
@@ -73,6 +72,7 @@ enum page_kind {
     FAULT_HIGH,
     FAULT_LOW,
     FAULT_BOTH,
+    FAULT_BOOK,
     FAULT_PLACE_AND_ROW,
     /* a record of another row, held or refused */
     OTHER_ROW_ALONE,
@@ -95,6 +95,12 @@ enum page_kind {
     OF_4096_PLACES,
     BESIDE_FAULT,
     FAULT_BESIDE_GOOD,
+    BOOK_ABOVE_0,
+    BOOK_ABOVE_0_PAST_255,
+    LAST_BOOK,
+    OF_16_BOOKS,
+    BESIDE_OTHER_BOOK,
+    FAULT_BESIDE_OTHER_BOOK,
     /* what take does */
     SAME_STAYS,
     OTHER_IN_SEVERAL,
@@ -113,6 +119,7 @@ enum page_kind {
     REFUSED_12,
     REFUSED_13,
     REFUSED_16,
+    REFUSED_17,
     ROW_0_NAMED,
     ROW_ABOVE_0_NAMED,
     PAGE_SHORT_1,
@@ -121,6 +128,8 @@ enum page_kind {
     PAGE_LONG_9,
     NO_PAGE,
     PAGE_CUT,
+    PAGE_SHORT_BOOK,
+    PAGE_LONG_BOOK,
     OTHER_LENGTH,
     OTHER_LENGTH_AND_ROW,
     BOTH_LENGTHS,
@@ -128,20 +137,35 @@ enum page_kind {
     FAR_PAST,
     CUT_PLACE,
     PAST_BESIDE_FAULT,
+    PLACE_ALONE,
+    BOOK_ALONE,
+    BOOK_AND_PLACE,
+    BOOK_AT_END,
+    BOOK_FAR_PAST,
+    CUT_BOOK,
     COORDINATE_LENGTH,
     COORDINATE_FAR,
     EMPTY_13,
     CONTESTED_13,
     HELD_13,
     /* two reasons for a refusal */
+    BOTH_16_AND_17,
     BOTH_16_AND_7,
     BOTH_16_AND_8,
     BOTH_16_AND_4,
     BOTH_16_AND_13,
     BOTH_16_AND_12,
     ONLY_16,
+    BOTH_17_AND_7,
+    BOTH_17_AND_8,
+    BOTH_17_AND_4,
+    BOTH_17_AND_9,
+    BOTH_17_AND_13,
+    BOTH_17_AND_12,
+    ONLY_17,
     BOTH_7_AND_4,
     BOTH_7_AND_8,
+    BOTH_7_AND_BOOK,
     BOTH_7_AND_9,
     BOTH_7_AND_13,
     BOTH_4_AND_8,
@@ -191,8 +215,9 @@ enum page_kind {
     PAGE_KINDS
 };
 
-/* The reasons that there are to refuse a call, whichever comes first. */
+/* The reasons that there are to refuse a call, whichever comes first. With a bad table nothing else is told. */
 struct reasons {
+    int is_7;
     int is_4;
     int is_8;
     int is_9;
@@ -224,6 +249,7 @@ void note_other_byte(uint64_t byte);
 void note_record_length(uint64_t length);
 void note_remainder(uint64_t length);
 void note_no_mode(enum page_call call, uint64_t mode);
+void note_no_books(enum page_call call, uint64_t books);
 void note_shell(enum page_call call, struct shell shell, enum reading_word word, uint64_t reason);
 void note_selector(enum page_call call, uint64_t selector, enum reading_word word);
 void note_tallied(enum page_call call, enum reading_word word, uint64_t counted, uint64_t places);
@@ -231,15 +257,18 @@ void require_page_kinds_of(enum page_call call, struct required *so_far);
 void require_page_kinds(void);
 
 /* page_notes.c: what the cells tell, and where a call looks */
-void note_cell(enum page_call call, const struct table *table, uint64_t place, const uint8_t *cell);
+void note_cell(enum page_call call, const struct table *table, uint64_t field, const uint8_t *cell);
+void note_cell_asked(enum page_call call, const struct question *question, uint64_t place);
 void note_foreign(enum page_call call, const struct table *table, const uint8_t *record);
-void note_where(enum page_call call, const struct table *table, const struct page *page, uint64_t place, struct list expected);
+void note_where(enum page_call call, const struct question *question, struct list expected);
 
-/* refusal_notes.c: what the refusals tell */
+/* refusal_notes.c: what the refusals tell; a record asks about the place that it names, and a run about nothing */
 int is_wrong_page(const struct page *page);
-void note_refusal(enum page_call call, const struct table *table, const struct page *page, uint64_t place, struct list expected);
+int is_outside(const struct question *question);
+void note_refusal(enum page_call call, const struct question *question, struct list expected);
 void note_both(enum page_call call, struct reasons reasons);
-void note_mode(enum page_call call, const struct question *question);
+void note_books(enum page_call call, uint64_t books, struct reasons reasons);
+int is_no_mode_or_books(enum page_call call, const struct question *question, struct list expected);
 
 /* take_notes.c: what one comparison of take or of collect tells */
 void note_take(const struct table *table, const struct page *page, const struct arrival *arrival, const uint8_t *before,
@@ -249,7 +278,7 @@ void note_run(const struct table *table, const struct page *page, const struct a
 /* reading_notes.c: what one comparison of each other call tells */
 void note_reading(enum page_call call, const struct question *question, struct list expected);
 void note_value(const struct question *question, struct list expected, uint32_t bits);
-void note_tally(uint64_t mode, const struct table *table, const struct page *page, struct list expected);
+void note_tally(const struct question *question, struct list expected);
 void note_lines(const struct question *question, struct list expected);
 
 #endif

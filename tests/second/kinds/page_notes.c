@@ -1,4 +1,5 @@
-/* The kinds of comparisons of the page that the cell and the place tell. See docs/RULES.md, "The page". */
+/* The kinds of comparisons of the page that the cell, the place and the book tell. See docs/RULES.md, "The page" and
+   "Books". */
 
 #include "page_kinds.h"
 
@@ -53,7 +54,7 @@ static void note_held(enum page_call call, const struct table *table, uint64_t p
 /* A record of another row than that of its place: which row, and what the rest of it would be in the place's. */
 void note_foreign(enum page_call call, const struct table *table, const uint8_t *record)
 {
-    const uint64_t place = two_bytes(record + AT_PLACE), row = record[AT_ROW], right = row_of(table, place);
+    const uint64_t place = place_in(field_in(record)), row = record[AT_ROW], right = row_of(table, place);
     uint8_t cell[CELL_SIZE] = {STATE_HELD};
     write_record(cell + AT_RECORD, place, right, record[AT_RADIUS_NUMBER], codeword_of(record));
     const struct reading reading = read_cell(mode_of(call), table, place, cell);
@@ -69,14 +70,33 @@ void note_foreign(enum page_call call, const struct table *table, const uint8_t 
     note_page(call, NO_ROW_OF_TABLE, row >= table->size / ROW_SIZE);
 }
 
+/* A held cell: in which bytes the place field differs, and whether the row does. */
+static void note_held_cell(enum page_call call, const struct table *table, uint64_t field, const uint8_t *cell)
+{
+    const uint8_t *record = cell + AT_RECORD;
+    const uint64_t changed = field_in(record) ^ field, high = changed / 256, low = changed % 256;
+    const int is_other_row = record[AT_ROW] != row_of(table, place_in(field));
+    note_page(call, FAULT_HIGH, high != 0 && low == 0 && !is_other_row);
+    note_page(call, FAULT_LOW, high == 0 && low != 0 && !is_other_row);
+    note_page(call, FAULT_BOTH, high != 0 && low != 0 && !is_other_row);
+    note_page(call, FAULT_BOOK, book_in(changed) != 0 && place_in(changed) == 0 && !is_other_row);
+    note_page(call, FAULT_PLACE_AND_ROW, changed != 0 && is_other_row);
+    if (changed == 0 && is_other_row)
+        note_foreign(call, table, record);
+    if (changed == 0 && !is_other_row)
+        note_held(call, table, place_in(field), cell);
+}
+
 /* A cell that the call looks at. */
-void note_cell(enum page_call call, const struct table *table, uint64_t place, const uint8_t *cell)
+void note_cell(enum page_call call, const struct table *table, uint64_t field, const uint8_t *cell)
 {
     const uint8_t *record = cell + AT_RECORD, zeros[RECORD_SIZE] = {0}, state = cell[AT_STATE];
-    const int is_zeros = memcmp(record, zeros, RECORD_SIZE) == 0, is_other_row = record[AT_ROW] != row_of(table, place);
+    const uint64_t row = row_of(table, place_in(field));
+    const int is_zeros = memcmp(record, zeros, RECORD_SIZE) == 0, is_other_row = record[AT_ROW] != row;
     note_state(call, state);
-    if (!is_at_fault(table, place, cell))
-        note_selector(call, row_at(table, place)[AT_SELECTOR], read_cell(mode_of(call), table, place, cell).word);
+    if (!is_at_fault(table, field, cell))
+        note_selector(call, row_at(table, place_in(field))[AT_SELECTOR],
+                      read_cell(mode_of(call), table, field, cell).word);
     note_page(call, EMPTY_ZEROS, state == STATE_EMPTY && is_zeros);
     note_page(call, EMPTY_GARBAGE, state == STATE_EMPTY && !is_zeros);
     note_page(call, CONTESTED_ZEROS, state == STATE_CONTESTED && is_zeros);
@@ -84,34 +104,46 @@ void note_cell(enum page_call call, const struct table *table, uint64_t place, c
     note_page(call, EMPTY_OTHER_ROW, state == STATE_EMPTY && is_other_row);
     note_page(call, CONTESTED_OTHER_ROW, state == STATE_CONTESTED && is_other_row);
     note_page(call, FAULT_STATE, state > STATE_CONTESTED);
-    if (state != STATE_HELD)
-        return;
-    const uint64_t changed = two_bytes(record + AT_PLACE) ^ place, high = changed / 256, low = changed % 256;
-    note_page(call, FAULT_HIGH, high != 0 && low == 0 && !is_other_row);
-    note_page(call, FAULT_LOW, high == 0 && low != 0 && !is_other_row);
-    note_page(call, FAULT_BOTH, high != 0 && low != 0 && !is_other_row);
-    note_page(call, FAULT_PLACE_AND_ROW, changed != 0 && is_other_row);
-    if (changed == 0 && is_other_row)
-        note_foreign(call, table, record);
-    if (changed == 0 && !is_other_row)
-        note_held(call, table, place, cell);
+    if (state == STATE_HELD)
+        note_held_cell(call, table, field, cell);
 }
 
-/* Where a call looks that is answered, or refused with 12. */
-void note_where(enum page_call call, const struct table *table, const struct page *page, uint64_t place, struct list expected)
+/* That of a place in the book that is asked for. */
+void note_cell_asked(enum page_call call, const struct question *question, uint64_t place)
 {
-    const int is_beside_0 = place > 0, is_0_at_fault = is_at_fault(table, 0, cell_at(page, 0));
-    const uint64_t row = row_of(table, place);
-    if (expected.items[0] == 12) {
-        note_page(call, FAULT_BESIDE_GOOD, is_beside_0 && !is_0_at_fault);
+    note_cell(call, question->table, place_field(question->book, place), cell_asked(question, place));
+}
+
+/* In which book a call looks that is answered, or refused with 12, and whether the place is at fault in the next. */
+static void note_book(enum page_call call, const struct question *question, int is_answered)
+{
+    const uint64_t books = question->page->books;
+    struct question other = *question;
+    other.book = (question->book + 1) % books;
+    const int is_there = books > 1, is_other_at_fault = is_there && is_fault_at(&other, question->place);
+    note_page(call, FAULT_BESIDE_OTHER_BOOK, !is_answered && is_there && !is_other_at_fault);
+    note_page(call, BESIDE_OTHER_BOOK, is_answered && is_other_at_fault);
+    note_page(call, BOOK_ABOVE_0, is_answered && question->book > 0);
+    note_page(call, BOOK_ABOVE_0_PAST_255, is_answered && question->book > 0 && question->place > 255);
+    note_page(call, LAST_BOOK, is_answered && is_there && question->book == books - 1);
+    note_page(call, OF_16_BOOKS, is_answered && books == MOST_BOOKS);
+    note_page(call, OF_1_PLACE, is_answered && question->page->places == 1);
+    note_page(call, OF_4096_PLACES, is_answered && question->page->places == MOST_PLACES);
+}
+
+/* Where a call looks that is answered, or refused with 12; the tally looks from place 0 on. */
+void note_where(enum page_call call, const struct question *question, struct list expected)
+{
+    const uint64_t place = question->place, row = row_of(question->table, place), places = question->page->places;
+    const int is_beside_0 = place > 0, is_0_at_fault = is_fault_at(question, 0), is_answered = expected.items[0] == 0;
+    note_book(call, question, is_answered);
+    note_page(call, FAULT_BESIDE_GOOD, !is_answered && is_beside_0 && !is_0_at_fault);
+    if (!is_answered)
         return;
-    }
     note_page(call, BESIDE_FAULT, is_beside_0 && is_0_at_fault);
     note_page(call, AT_PLACE_0, place == 0);
-    note_page(call, AT_LAST_PLACE, is_beside_0 && place == page->places - 1);
-    note_page(call, AT_FIRST_OF_ROW, is_beside_0 && row_of(table, place - 1) < row);
-    note_page(call, AT_LAST_OF_ROW, place < page->places - 1 && row_of(table, place + 1) > row);
+    note_page(call, AT_LAST_PLACE, is_beside_0 && place == places - 1);
+    note_page(call, AT_FIRST_OF_ROW, is_beside_0 && row_of(question->table, place - 1) < row);
+    note_page(call, AT_LAST_OF_ROW, place < places - 1 && row_of(question->table, place + 1) > row);
     note_page(call, AT_PAST_255, place > 255);
-    note_page(call, OF_1_PLACE, page->places == 1);
-    note_page(call, OF_4096_PLACES, page->places == MOST_PLACES);
 }

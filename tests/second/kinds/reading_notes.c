@@ -1,17 +1,17 @@
 /* The kinds that one comparison of read, of coefficient, of the tally or of lines tells, beside those of page_notes.c
-   and refusal_notes.c. See docs/RULES.md, "The page" and "Refusal numbers". */
+   and refusal_notes.c. See docs/RULES.md, "The page", "Books" and "Refusal numbers". */
 
 #include "page_kinds.h"
 
 /* Refusal 13, and the cell that the call does not look at. */
 static void note_coordinate(enum page_call call, const struct question *question, uint64_t length)
 {
-    const uint8_t *cell = cell_at(question->page, question->place);
+    const uint8_t state = cell_asked(question, question->place)[AT_STATE];
     note_page(call, COORDINATE_LENGTH, question->number == length);
     note_page(call, COORDINATE_FAR, question->number >= TWO_TO_32);
-    note_page(call, EMPTY_13, cell[AT_STATE] == STATE_EMPTY);
-    note_page(call, CONTESTED_13, cell[AT_STATE] == STATE_CONTESTED);
-    note_page(call, HELD_13, cell[AT_STATE] == STATE_HELD && !is_at_fault(question->table, question->place, cell));
+    note_page(call, EMPTY_13, state == STATE_EMPTY);
+    note_page(call, CONTESTED_13, state == STATE_CONTESTED);
+    note_page(call, HELD_13, state == STATE_HELD && !is_fault_at(question, question->place));
 }
 
 /* A place that is answered with a point: whether it tells the enumeration. */
@@ -30,32 +30,30 @@ void note_reading(enum page_call base, const struct question *question, struct l
 {
     const struct page *page = question->page;
     const uint64_t refusal = expected.items[0], place = question->place;
-    if (refusal == 16) {
-        note_mode(base, question);
+    if (is_no_mode_or_books(base, question, expected))
         return;
-    }
     const enum page_call call = call_in(base, question->mode);
-    note_refusal(call, question->table, page, place, expected);
     if (refusal == 7) {
         note_page(call, BOTH_7_AND_13, question->number >= MOST_LENGTH);
         return;
     }
-    const int is_outside = place >= page->places;
-    const uint64_t length = is_outside ? MOST_LENGTH : row_at(question->table, place)[AT_LENGTH];
-    const int is_other_length = base == READ && (is_outside ? question->number > length : question->number != length);
+    const int is_8 = is_outside(question), is_any_row = place < page->places;
+    const uint64_t length = is_any_row ? row_at(question->table, place)[AT_LENGTH] : MOST_LENGTH;
+    const int is_other_length = base == READ && (is_any_row ? question->number != length : question->number > length);
+    const int is_13 = base == COEFFICIENT && question->number >= (is_8 ? MOST_LENGTH : length);
     note_both(call, (struct reasons){.is_4 = is_wrong_page(page) || is_other_length,
-                                     .is_8 = is_outside,
-                                     .is_12 = !is_outside && is_at_fault(question->table, place, cell_at(page, place)),
-                                     .is_13 = base == COEFFICIENT && question->number >= length});
-    note_page(call, OTHER_LENGTH, is_other_length && !is_outside && !is_wrong_page(page));
-    note_page(call, BOTH_LENGTHS, is_other_length && !is_outside && is_wrong_page(page));
+                                     .is_8 = is_8,
+                                     .is_12 = !is_8 && is_fault_at(question, place),
+                                     .is_13 = is_13});
+    note_page(call, OTHER_LENGTH, is_other_length && !is_8 && !is_wrong_page(page));
+    note_page(call, BOTH_LENGTHS, is_other_length && !is_8 && is_wrong_page(page));
     if (refusal == 13)
         note_coordinate(call, question, length);
     if (refusal == 0)
-        note_shown(call, read_cell(question->mode, question->table, place, cell_at(page, place)));
+        note_shown(call, reading_at(question, place));
     if (refusal == 0 || refusal == 12) {
-        note_cell(call, question->table, place, cell_at(page, place));
-        note_where(call, question->table, page, place, expected);
+        note_cell_asked(call, question, place);
+        note_where(call, question, expected);
     }
 }
 
@@ -66,7 +64,7 @@ void note_value(const struct question *question, struct list expected, uint32_t 
     if (expected.items[0] != 0 || (word != SOUND && word != MENDED))
         return;
     const enum page_call call = call_in(COEFFICIENT, question->mode);
-    const struct reading reading = read_cell(question->mode, question->table, question->place, cell_at(question->page, question->place));
+    const struct reading reading = reading_at(question, question->place);
     const uint64_t over_256 = nearest(bits).whole, length = row_at(question->table, question->place)[AT_LENGTH];
     note_page(call, VALUE_POSITIVE, bits != 0 && !is_negative(bits));
     note_page(call, VALUE_NEGATIVE, is_negative(bits));
@@ -78,41 +76,20 @@ void note_value(const struct question *question, struct list expected, uint32_t 
 }
 
 /* The places of an answered tally, or the place that refusal 12 names. */
-static void note_cells(enum page_call call, const struct table *table, const struct page *page, struct list expected)
+static void note_cells(enum page_call call, const struct question *question, struct list expected)
 {
-    const uint64_t named = expected.items[1];
+    const uint64_t named = expected.items[1], places = question->page->places;
     if (expected.items[0] == 12) {
         note_page(call, FAULT_AT_FIRST, named == 0);
-        note_page(call, FAULT_AT_LAST, named > 0 && named == page->places - 1);
-        note_cell(call, table, named, cell_at(page, named));
+        note_page(call, FAULT_AT_LAST, named > 0 && named == places - 1);
+        note_cell_asked(call, question, named);
         return;
     }
-    note_page(call, OF_1_PLACE, page->places == 1);
-    note_page(call, OF_4096_PLACES, page->places == MOST_PLACES);
+    note_where(call, question, expected);
     for (enum reading_word word = SOUND; word < READINGS; word++)
-        note_tallied(call, word, expected.items[1 + word], page->places);
-    for (uint64_t place = 0; place < page->places; place++)
-        note_cell(call, table, place, cell_at(page, place));
-}
-
-void note_tally(uint64_t mode, const struct table *table, const struct page *page, struct list expected)
-{
-    const uint64_t refusal = expected.items[0];
-    uint64_t at_fault = 0;
-    if (refusal == 16) {
-        note_mode(TALLY, &(struct question){.mode = mode, .table = table, .page = page});
-        return;
-    }
-    const enum page_call call = call_in(TALLY, mode);
-    note_refusal(call, table, page, 0, expected);
-    if (refusal == 7)
-        return;
-    for (uint64_t place = 0; place < page->places; place++)
-        at_fault += is_at_fault(table, place, cell_at(page, place)) != 0;
-    note_both(call, (struct reasons){.is_4 = is_wrong_page(page), .is_12 = at_fault > 0});
-    note_page(call, FAULTS_SEVERAL, refusal == 12 && at_fault > 1);
-    if (refusal == 0 || refusal == 12)
-        note_cells(call, table, page, expected);
+        note_tallied(call, word, expected.items[1 + word], places);
+    for (uint64_t place = 0; place < places; place++)
+        note_cell_asked(call, question, place);
 }
 
 /* How many places of those from one on are at fault. */
@@ -120,8 +97,23 @@ static uint64_t count_faults(const struct question *question, uint64_t from, uin
 {
     uint64_t at_fault = 0;
     for (uint64_t place = from; place < to; place++)
-        at_fault += is_at_fault(question->table, place, cell_at(question->page, place)) != 0;
+        at_fault += is_fault_at(question, place) != 0;
     return at_fault;
+}
+
+/* The question has place 0. */
+void note_tally(const struct question *question, struct list expected)
+{
+    const uint64_t refusal = expected.items[0];
+    if (is_no_mode_or_books(TALLY, question, expected) || refusal == 7)
+        return;
+    const enum page_call call = call_in(TALLY, question->mode);
+    const int is_8 = is_outside(question);
+    const uint64_t at_fault = is_8 ? 0 : count_faults(question, 0, question->page->places);
+    note_both(call, (struct reasons){.is_4 = is_wrong_page(question->page), .is_8 = is_8, .is_12 = at_fault > 0});
+    note_page(call, FAULTS_SEVERAL, refusal == 12 && at_fault > 1);
+    if (refusal == 0 || refusal == 12)
+        note_cells(call, question, expected);
 }
 
 /* The places whose lines are written. */
@@ -131,8 +123,8 @@ static void note_text(enum page_call call, const struct question *question, uint
     const uint64_t from = question->place, lines = end - from, number = question->number;
     int is_6 = 0;
     for (uint64_t place = from; place < end; place++) {
-        note_cell(call, question->table, place, cell_at(page, place));
-        is_6 |= read_cell(question->mode, question->table, place, cell_at(page, place)).reason == 6;
+        note_cell_asked(call, question, place);
+        is_6 |= reading_at(question, place).reason == 6;
     }
     note_page(call, TEXT_OF_6, is_6);
     note_page(call, ALL_LINES, lines == page->places && lines > 1);
@@ -142,7 +134,7 @@ static void note_text(enum page_call call, const struct question *question, uint
     note_page(call, ROOM_511, number == 2 * LINE_SPACE - 1 && end < page->places);
     note_page(call, ROOM_CUT, number >= TWO_TO_32 && number % 65536 < LINE_SPACE);
     note_page(call, ROOM_FAR, number >= TWO_TO_63);
-    note_page(call, FAULT_BEHIND_LINES, end < page->places && is_at_fault(question->table, end, cell_at(page, end)));
+    note_page(call, FAULT_BEHIND_LINES, end < page->places && is_fault_at(question, end));
 }
 
 /* Where the table and the page are right, and the place is in the table: what is behind 4, 12, or no refusal. */
@@ -153,32 +145,27 @@ static void note_lines_asked(enum page_call call, const struct question *questio
     if (refusal == 12) {
         note_page(call, FAULT_BEHIND_FIRST, named > question->place);
         note_page(call, FAULTS_SEVERAL, count_faults(question, question->place, question->place + lines_asked(question)) > 1);
-        note_cell(call, question->table, named, cell_at(question->page, named));
+        note_cell_asked(call, question, named);
     }
     if (refusal == 0)
         note_text(call, question, named);
     if (refusal != 4)
-        note_where(call, question->table, question->page, question->place, expected);
+        note_where(call, question, expected);
 }
 
 void note_lines(const struct question *question, struct list expected)
 {
-    const struct page *page = question->page;
-    const uint64_t refusal = expected.items[0], place = question->place;
-    if (refusal == 16) {
-        note_mode(LINES, question);
+    const uint64_t refusal = expected.items[0];
+    if (is_no_mode_or_books(LINES, question, expected) || refusal == 7)
         return;
-    }
     const enum page_call call = call_in(LINES, question->mode);
-    note_refusal(call, question->table, page, place, expected);
-    if (refusal == 7)
-        return;
-    const int is_outside = place >= page->places, is_short = question->number < LINE_SPACE, is_wrong = is_wrong_page(page);
+    const int is_8 = is_outside(question), is_wrong = is_wrong_page(question->page);
+    const int is_short = question->number < LINE_SPACE;
     note_both(call, (struct reasons){.is_4 = is_wrong || is_short,
-                                     .is_8 = is_outside,
-                                     .is_12 = !is_outside && is_at_fault(question->table, place, cell_at(page, place))});
-    note_page(call, OTHER_LENGTH, is_short && !is_outside && !is_wrong);
-    note_page(call, BOTH_LENGTHS, is_short && !is_outside && is_wrong);
-    if (!is_outside && !is_wrong)
+                                     .is_8 = is_8,
+                                     .is_12 = !is_8 && is_fault_at(question, question->place)});
+    note_page(call, OTHER_LENGTH, is_short && !is_8 && !is_wrong);
+    note_page(call, BOTH_LENGTHS, is_short && !is_8 && is_wrong);
+    if (!is_8 && !is_wrong)
         note_lines_asked(call, question, expected);
 }

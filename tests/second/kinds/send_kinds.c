@@ -1,6 +1,6 @@
 /* How many pages of each kind were compared with send. A kind is told from what the program's own rules made of a
    page, not from how it was drawn. The program ends with an error of its own if there are too few of one, so that the
-   comparison cannot become empty. See docs/RULES.md, "Sending a page" and "Refusal numbers". */
+   comparison cannot become empty. See docs/RULES.md, "Sending a page", "Books" and "Refusal numbers". */
 
 #include "lent.h"
 #include "send_kinds.h"
@@ -8,58 +8,6 @@
 #include <stdio.h>
 
 enum { LEAST = 100 };
-
-static const char *const names[SEND_KINDS] = {
-    [SENT] = "that are sent",
-    [SENT_1_PLACE] = "of one place that are sent",
-    [SENT_4096_PLACES] = "of 4,096 places that are sent",
-    [SENT_PAST_255] = "of more than 255 places that are sent",
-    [SENT_MIXED_LENGTHS] = "of rows of different lengths that are sent",
-    [SENT_EVERY_SELECTOR] = "of rows of each selector that are sent",
-    [SENT_BELOW_32768] = "that are sent with the largest coefficient below 32,768",
-    [SENT_ABOVE_MINUS_32768] = "that are sent with the lowest coefficient above -32,768",
-    [SEND_7_SIZE] = "refused with 7 for the size of the table",
-    [SEND_7_ROW_0] = "refused with 7 for row 0",
-    [SEND_7_ROW_ABOVE_0] = "refused with 7 for a row above 0",
-    [SEND_7_AND_4] = "with a bad table and a buffer that is right for none",
-    [SEND_7_AND_11] = "with a bad table and an unusable coefficient",
-    [RUN_SHORT] = "refused with 4 for a run that is too short, alone",
-    [RUN_SHORT_1] = "refused with 4 for a run that is one too short, alone",
-    [RUN_LONG] = "refused with 4 for a run that is too long, alone",
-    [RUN_LONG_1] = "refused with 4 for a run that is one too long, alone",
-    [RUN_OF_PLACES] = "refused with 4 for a run as long as the number of places",
-    [RUN_OF_FIRST_LENGTH] = "refused with 4 for a run that would be right if all rows were as long as the first one",
-    [NO_RUN] = "refused with 4 for a run of no coefficients",
-    [RUN_CUT] = "refused with 4 for a run that is right only where its length is cut",
-    [BUFFER_SHORT] = "refused with 4 for a buffer that is too short, alone",
-    [BUFFER_SHORT_1] = "refused with 4 for a buffer that is a byte too short, alone",
-    [BUFFER_SHORT_8] = "refused with 4 for a buffer that is a record too short, alone",
-    [BUFFER_LONG] = "refused with 4 for a buffer that is too long, alone",
-    [BUFFER_LONG_1] = "refused with 4 for a buffer that is a byte too long, alone",
-    [BUFFER_LONG_8] = "refused with 4 for a buffer that is a record too long, alone",
-    [BUFFER_OF_PAGE] = "refused with 4 for a buffer as long as the page",
-    [NO_BUFFER] = "refused with 4 for a buffer of no bytes",
-    [BUFFER_CUT] = "refused with 4 for a buffer that is right only where its length is cut",
-    [RUN_AND_BUFFER] = "refused with 4 for the run and for the buffer",
-    [SEND_4_AND_11] = "refused with 4 that have an unusable coefficient",
-    [FAULT_FIRST_PLACE] = "refused with 11 at place 0",
-    [FAULT_LAST_PLACE] = "refused with 11 at the last place of several",
-    [FAULT_LATER_PLACE] = "refused with 11 between the first place and the last",
-    [FAULT_PAST_255] = "refused with 11 at a place above 255",
-    [FAULT_ROW_ABOVE_0] = "refused with 11 at a place of a row above 0",
-    [FAULT_LOWEST_COORDINATE] = "refused with 11 at coordinate 0",
-    [FAULT_LAST_COORDINATE] = "refused with 11 at the last coordinate of several",
-    [FAULTS_IN_PLACE] = "refused with 11 for several coordinates of a place",
-    [FAULTS_IN_PLACES] = "refused with 11 for several places",
-    [FAULT_LOWER_BEHIND] = "refused with 11 where a lower coordinate of a later place is unusable too",
-    [FAULT_QUIET_NAN] = "refused for a quiet NaN",
-    [FAULT_SIGNALLING_NAN] = "refused for a signalling NaN",
-    [FAULT_INFINITY] = "refused for positive infinity",
-    [FAULT_MINUS_INFINITY] = "refused for negative infinity",
-    [FAULT_32768] = "refused for 32,768",
-    [FAULT_MINUS_32768] = "refused for -32,768",
-    [FAULT_NEXT_TO_32768] = "refused for the number next to 32,768, or to -32,768",
-};
 
 static uint64_t kinds[SEND_KINDS], rows[MOST_ROWS + 1], lengths[MOST_LENGTH + 1], coordinates[MOST_LENGTH], faults[FAULTS];
 static uint64_t selectors[SELECTORS];
@@ -102,6 +50,39 @@ static void note_sent(const struct sending *sending)
     note_kind(SENT_EVERY_SELECTOR, has_every_selector(&sending->table));
     note_kind(SENT_BELOW_32768, is_largest);
     note_kind(SENT_ABOVE_MINUS_32768, is_lowest);
+    note_kind(SENT_16_BOOKS, sending->books == MOST_BOOKS);
+    note_kind(SENT_BOOK_ABOVE_0, sending->book > 0);
+    note_kind(SENT_LAST_BOOK, sending->book > 0 && sending->book == sending->books - 1);
+    note_kind(SENT_BOOK_PAST_255, sending->book > 0 && places > 255);
+}
+
+/* Whether the run or the buffer has not the length that a good table asks for. */
+static int is_length_wrong(const struct sending *sending)
+{
+    const uint64_t places = judge(sending->table.bytes, sending->table.size).places;
+    const int is_run = sending->run_length == coordinates_before(&sending->table, places);
+    return !is_run || sending->buffer_length != RECORD_SIZE * places;
+}
+
+/* Refusal 17, and what else is wrong. */
+static void note_17(const struct sending *sending)
+{
+    const int is_7 = judge(sending->table.bytes, sending->table.size).faults != 0;
+    note_kind(SEND_17, 1);
+    note_kind(SEND_17_AND_7, is_7);
+    note_kind(SEND_17_AND_8, sending->book >= MOST_BOOKS);
+    note_kind(SEND_17_AND_4, !is_7 && is_length_wrong(sending));
+    note_kind(SEND_17_AND_11, has_unusable(sending));
+}
+
+/* Refusal 8, which is for the book alone. */
+static void note_8(const struct sending *sending)
+{
+    note_kind(SEND_8, 1);
+    note_kind(SEND_8_AT_END, sending->book == sending->books);
+    note_kind(SEND_8_CUT, sending->book % TWO_TO_32 < sending->books);
+    note_kind(SEND_8_AND_4, is_length_wrong(sending));
+    note_kind(SEND_8_AND_11, has_unusable(sending));
 }
 
 /* Refusal 7. A buffer of part of a record, or of none, is right for no table. */
@@ -115,6 +96,7 @@ static void note_7(const struct sending *sending)
     note_kind(SEND_7_ROW_ABOVE_0, judgment.row > 0);
     note_kind(SEND_7_AND_4, sending->buffer_length == 0 || sending->buffer_length % RECORD_SIZE != 0);
     note_kind(SEND_7_AND_11, has_unusable(sending));
+    note_kind(SEND_7_AND_8, sending->book >= sending->books);
 }
 
 /* A run of another length than the right one, with a buffer of the right one. */
@@ -215,25 +197,30 @@ void note_send(const struct sending *sending, const struct sent *expected)
     const uint64_t *said = expected->list.items;
     if (said[0] == 0)
         note_sent(sending);
+    if (said[0] == 17)
+        note_17(sending);
     if (said[0] == 7)
         note_7(sending);
+    if (said[0] == 8)
+        note_8(sending);
     if (said[0] == 4)
         note_4(sending);
     if (said[0] == 11)
         note_11(sending, said[1], said[2]);
 }
 
-/* Only a call is lent a buffer: what is counted of it no file can show. */
-static int is_of_a_buffer(enum send_kind kind)
+/* Only a call is lent a buffer, and only a call is told books: what is counted of these no file can show. */
+static int is_of_a_call(enum send_kind kind)
 {
-    return kind == SEND_7_AND_4 || (kind >= BUFFER_SHORT && kind <= RUN_AND_BUFFER);
+    return kind == SEND_7_AND_4 || (kind >= BUFFER_SHORT && kind <= RUN_AND_BUFFER) ||
+           (kind >= SENT_16_BOOKS && kind <= SEND_8_AND_11);
 }
 
 /* Ends the program unless each kind of pages that files can show was compared often enough. */
 void require_file_kinds(uint64_t least)
 {
     for (enum send_kind kind = 0; kind < SEND_KINDS; kind++)
-        require(kinds[kind], is_of_a_buffer(kind) ? 0 : least, "pages", names[kind]);
+        require(kinds[kind], is_of_a_call(kind) ? 0 : least, "pages", send_names[kind]);
     for (uint64_t number = 1; number <= MOST_ROWS; number++)
         require_number(rows[number], least, "pages that are sent with a number of rows of", number);
     for (uint64_t length = 1; length <= MOST_LENGTH; length++)
@@ -250,7 +237,7 @@ void require_file_kinds(uint64_t least)
 void require_send_kinds(void)
 {
     for (enum send_kind kind = 0; kind < SEND_KINDS; kind++)
-        require(kinds[kind], LEAST, "pages", names[kind]);
+        require(kinds[kind], LEAST, "pages", send_names[kind]);
     require_file_kinds(LEAST);
     printf("kinds of sent pages: %d at least %d times each\n", SEND_KINDS, LEAST);
 }

@@ -1,4 +1,4 @@
-/* The kinds of sent pages that are counted; send_kinds.c has a name for each. */
+/* The kinds of sent pages that are counted; send_names.c has a name for each. */
 
 #ifndef SECOND_SEND_KINDS_H
 #define SECOND_SEND_KINDS_H
@@ -15,6 +15,22 @@ enum send_kind {
     SENT_EVERY_SELECTOR,
     SENT_BELOW_32768,
     SENT_ABOVE_MINUS_32768,
+    /* books, which no file can show */
+    SENT_16_BOOKS,
+    SENT_BOOK_ABOVE_0,
+    SENT_LAST_BOOK,
+    SENT_BOOK_PAST_255,
+    SEND_17,
+    SEND_17_AND_7,
+    SEND_17_AND_8,
+    SEND_17_AND_4,
+    SEND_17_AND_11,
+    SEND_7_AND_8,
+    SEND_8,
+    SEND_8_AT_END,
+    SEND_8_CUT,
+    SEND_8_AND_4,
+    SEND_8_AND_11,
     /* 7 */
     SEND_7_SIZE,
     SEND_7_ROW_0,
@@ -61,6 +77,9 @@ enum send_kind {
     FAULT_NEXT_TO_32768,
     SEND_KINDS
 };
+
+/* send_names.c: the name of each kind */
+extern const char *const send_names[SEND_KINDS];
 
 /* send_kinds.c: how many sent pages of each kind were compared */
 void note_send(const struct sending *sending, const struct sent *expected);

@@ -1,5 +1,5 @@
 /* What the call lines must answer, and the text that it must write, by rules of the program's own. See docs/RULES.md,
-   "Listing program", "Refusal numbers" and "Order of checks". */
+   "Listing program", "Books", "Refusal numbers" and "Order of checks". */
 
 #include "page.h"
 
@@ -50,11 +50,10 @@ uint64_t lines_asked(const struct question *question)
     return room < left ? room : left;
 }
 
-/* "lines | 16, 7, 8, 4, 12"; 12 names the lowest place at fault. On a refusal nothing is said of the text. Behind the 0
-   there are the place to go on from, and how many bytes are written. */
+/* "lines | 16, 17, 7, 8, 4, 12"; 12 names the lowest place at fault, one in the book, as the lines do. On a refusal
+   nothing is said of the text. Behind the 0 there are the place to go on from, and how many bytes are written. */
 struct list lines_from(const struct question *question, struct written *written)
 {
-    const struct table *table = question->table;
     const struct list list = check_question(question);
     if (list.items[0] != 0)
         return list;
@@ -63,10 +62,9 @@ struct list lines_from(const struct question *question, struct written *written)
     const uint64_t end = question->place + lines_asked(question);
     written->size = 0;
     for (uint64_t place = question->place; place < end; place++) {
-        const uint8_t *cell = cell_at(question->page, place);
-        if (is_at_fault(table, place, cell))
+        if (is_fault_at(question, place))
             return (struct list){{12, place}};
-        put_line(written, place, read_cell(question->mode, table, place, cell), row_at(table, place)[AT_LENGTH]);
+        put_line(written, place, reading_at(question, place), row_at(question->table, place)[AT_LENGTH]);
     }
     return (struct list){{0, end, written->size}};
 }

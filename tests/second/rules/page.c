@@ -1,5 +1,5 @@
 /* The page, by rules of the program's own: how a cell is read, what take and collect must answer, and what take makes
-   of a cell. See docs/RULES.md, "The page", "Refusal numbers" and "Order of checks". */
+   of a cell. See docs/RULES.md, "The page", "Books", "Refusal numbers" and "Order of checks". */
 
 #include "page.h"
 
@@ -27,16 +27,16 @@ uint64_t codeword_of(const uint8_t *record)
 /* 9: "the record's row is not the row of its place". The place must be in the table. */
 int is_foreign(const struct table *table, const uint8_t *record)
 {
-    return record[AT_ROW] != row_of(table, two_bytes(record + AT_PLACE));
+    return record[AT_ROW] != row_of(table, place_in(field_in(record)));
 }
 
-/* 12: "if its state is above 2, or if it is held with a record of another place, or of another row than the
-   place's". */
-int is_at_fault(const struct table *table, uint64_t place, const uint8_t *cell)
+/* 12: its state is above 2, or it is held with a record of another book or another place, by the whole place field, or
+   of another row than the place's. */
+int is_at_fault(const struct table *table, uint64_t field, const uint8_t *cell)
 {
     const uint8_t *record = cell + AT_RECORD;
     if (cell[AT_STATE] == STATE_HELD)
-        return two_bytes(record + AT_PLACE) != place || is_foreign(table, record);
+        return field_in(record) != field || is_foreign(table, record);
     return cell[AT_STATE] > STATE_CONTESTED;
 }
 
@@ -78,20 +78,20 @@ static struct reading read_record(uint64_t mode, const struct table *table, uint
 }
 
 /* A cell that is not at fault. */
-struct reading read_cell(uint64_t mode, const struct table *table, uint64_t place, const uint8_t *cell)
+struct reading read_cell(uint64_t mode, const struct table *table, uint64_t field, const uint8_t *cell)
 {
     own_figure("mode in which a cell is read, of two", mode < MODES, 1);
     if (cell[AT_STATE] == STATE_EMPTY)
         return (struct reading){.word = MISSING};
     if (cell[AT_STATE] == STATE_CONTESTED)
         return (struct reading){.word = CONTESTED};
-    return read_record(mode, table, place, cell + AT_RECORD);
+    return read_record(mode, table, place_in(field), cell + AT_RECORD);
 }
 
 /* Whether a cell that is not at fault is held with a codeword from the total to before 2^b: where the modes differ. */
-int is_overflowing(const struct table *table, uint64_t place, const uint8_t *cell)
+int is_overflowing(const struct table *table, uint64_t field, const uint8_t *cell)
 {
-    const uint8_t *row = row_at(table, place), *record = cell + AT_RECORD;
+    const uint8_t *row = row_at(table, place_in(field)), *record = cell + AT_RECORD;
     if (cell[AT_STATE] != STATE_HELD || record[AT_RADIUS_NUMBER] >= row[AT_NUMBER_OF_RADII])
         return 0;
     const uint64_t total = total_of(shell_of(row, record[AT_RADIUS_NUMBER])), codeword = codeword_of(record);
@@ -118,21 +118,23 @@ static void claim(uint8_t *cell, const uint8_t *record)
         cell[AT_RECORD + i] = is_other ? 0 : record[i];
 }
 
-/* "take | 7, 4, 8, 9, 12". */
+/* "take | 17, 7, 4, 8, 9, 12". */
 struct list take(const struct table *table, struct page *page, const struct arrival *arrival)
 {
     const struct judgment judgment = judge(table->bytes, table->size);
+    if (is_no_number_of_books(page->books))
+        return refused(17, 0);
     if (judgment.faults)
         return refused(7, judgment.row);
-    if (page->size != CELL_SIZE * judgment.places || arrival->length != RECORD_SIZE)
+    if (page->size != CELL_SIZE * judgment.places * page->books || arrival->length != RECORD_SIZE)
         return refused(4, 0);
-    const uint64_t place = two_bytes(arrival->bytes + AT_PLACE);
-    if (place >= judgment.places)
+    const uint64_t field = field_in(arrival->bytes), book = book_in(field), place = place_in(field);
+    if (place >= judgment.places || book >= page->books)
         return refused(8, 0);
     if (is_foreign(table, arrival->bytes))
         return refused(9, 0);
-    uint8_t *cell = page->own + GUARDS + CELL_SIZE * place;
-    if (is_at_fault(table, place, cell))
+    uint8_t *cell = page->own + GUARDS + CELL_SIZE * (book * judgment.places + place);
+    if (is_at_fault(table, field, cell))
         return refused(12, 0);
     claim(cell, arrival->bytes);
     return refused(0, 0);

@@ -127,9 +127,9 @@ static void make_point(const uint32_t *coefficients, struct quantizing *to)
 }
 
 /* The fields of a record: "A number of several bytes has its high byte first". */
-void write_record(uint8_t *record, uint64_t place, uint64_t row, uint64_t number, uint64_t codeword)
+void write_record(uint8_t *record, uint64_t field, uint64_t row, uint64_t number, uint64_t codeword)
 {
-    set_two_bytes(record + AT_PLACE, place);
+    set_two_bytes(record + AT_PLACE, field);
     record[AT_ROW] = (uint8_t)row;
     record[AT_RADIUS_NUMBER] = (uint8_t)number;
     set_two_bytes(record + AT_CODEWORD, codeword / 65536);
@@ -150,7 +150,8 @@ void quantize_magnitudes(const struct vector *vector, struct quantizing *to)
         to->point[i] = 0;
     if (to->shell.radius > 0)
         make_point(vector->coefficients, to);
-    write_record(to->answer.record, vector->place, to->row, to->number, rank(to->shell, to->point));
+    const uint64_t field = place_field(vector->book, vector->place);
+    write_record(to->answer.record, field, to->row, to->number, rank(to->shell, to->point));
 }
 
 static struct quantizing refused(uint32_t refusal, uint64_t value)
@@ -158,14 +159,16 @@ static struct quantizing refused(uint32_t refusal, uint64_t value)
     return (struct quantizing){.answer = {.refusal = refusal, .value = value}};
 }
 
-/* "quantize | 7, 8, 4, 11". */
+/* "quantize | 17, 7, 8, 4, 11". */
 struct quantizing quantize(const struct vector *vector)
 {
     struct quantizing to = {0};
     const struct judgment judgment = judge(vector->table.bytes, vector->table.size);
+    if (is_no_number_of_books(vector->books))
+        return refused(17, 0);
     if (judgment.faults)
         return refused(7, judgment.row);
-    if (vector->place >= judgment.places)
+    if (vector->book >= vector->books || vector->place >= judgment.places)
         return refused(8, 0);
     to.row = row_of(&vector->table, vector->place);
     if (vector->length != vector->table.bytes[to.row * ROW_SIZE + AT_LENGTH] || vector->record_length != RECORD_SIZE)

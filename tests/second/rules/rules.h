@@ -14,6 +14,8 @@ enum {
     MOST_ROWS = 32,
     MOST_RADII = 8,
     MOST_PLACES = 4096,
+    MOST_BOOKS = 16,
+    PLACE_BITS = 12, /* of the place field: the lower ones, and those above have the book */
     RECORD_SIZE = 8,
     ITEMS = 6,          /* the most items of a list that a call answers */
     MOST_LENT = 32,     /* the room for the point, or the coefficients, that a call is lent */
@@ -45,7 +47,7 @@ struct list {
 /* Where the fields of a row of a pairing table begin. */
 enum { AT_LENGTH = 0, AT_NUMBER_OF_RADII = 1, AT_RADII = 2, AT_STEP = 10, AT_PLACES = 12, AT_SELECTOR = 14, AT_15 = 15 };
 
-/* Where the fields of a record begin. */
+/* Where the fields of a record begin; that of the place has the book too. */
 enum { AT_PLACE = 0, AT_ROW = 2, AT_RADIUS_NUMBER = 3, AT_CODEWORD = 4 };
 
 /* A pairing table: its size in bytes, which may be any number, and the room for its bytes, of which it may
@@ -65,10 +67,12 @@ enum {
     BITS_OF_QUIET_NAN = 0x7fc00000 /* from here on; between infinity and this one, NaN is signalling */
 };
 
-/* What quantize is lent, and the place. The lengths may be any numbers; of the room for the coefficients some
-   may be unused. */
+/* What quantize is lent, and the place in its book. These numbers and the lengths may be any; of the room for the
+   coefficients some may be unused. */
 struct vector {
     struct table table;
+    uint64_t books; /* how many there are */
+    uint64_t book;
     uint64_t place;
     uint64_t length;                  /* of the coefficients */
     uint32_t coefficients[MOST_LENT]; /* the bits of each f32 */
@@ -138,6 +142,13 @@ int is_on_shell(struct shell shell, const int32_t *vector);
 struct list index_at(struct shell shell, const int32_t *vector, uint64_t length);
 struct list point_at(const struct pointing *asked, int32_t *point);
 
+/* books.c: the number of books, and the place field */
+int is_no_number_of_books(uint64_t books);
+uint64_t place_field(uint64_t book, uint64_t place);
+uint64_t book_in(uint64_t field);
+uint64_t place_in(uint64_t field);
+uint64_t field_in(const uint8_t *record);
+
 /* pairing.c: what is wrong with a pairing table */
 enum fault {
     NO_BYTES,
@@ -194,7 +205,7 @@ uint32_t bits_of(uint64_t m, uint32_t p);
 int is_negative(uint32_t bits);
 int is_unusable(uint32_t bits);
 struct rounding nearest(uint32_t bits);
-void write_record(uint8_t *record, uint64_t place, uint64_t row, uint64_t number, uint64_t codeword);
+void write_record(uint8_t *record, uint64_t field, uint64_t row, uint64_t number, uint64_t codeword);
 void quantize_magnitudes(const struct vector *vector, struct quantizing *to);
 struct quantizing quantize(const struct vector *vector);
 

@@ -1,5 +1,6 @@
 /* A run of coefficients into the records of a page, by rules of the program's own: place by place, each as the
-   program's own quantizer has it. See docs/RULES.md, "Sending a page", "Refusal numbers" and "Order of checks". */
+   program's own quantizer has it. See docs/RULES.md, "Sending a page", "Books", "Refusal numbers" and "Order of
+   checks". */
 
 #include "sending.h"
 
@@ -19,7 +20,8 @@ uint64_t coordinates_before(const struct table *table, uint64_t place)
 /* What quantize is lent for a place of a good table, with a run that is long enough. */
 struct vector vector_at(const struct sending *sending, uint64_t place)
 {
-    struct vector vector = {.table = sending->table, .place = place, .record_length = RECORD_SIZE};
+    struct vector vector = {.table = sending->table, .books = sending->books, .book = sending->book, .place = place};
+    vector.record_length = RECORD_SIZE;
     const uint32_t *coefficients = sending->run + coordinates_before(&sending->table, place);
     vector.length = row_at(&sending->table, place)[AT_LENGTH];
     for (uint64_t i = 0; i < vector.length; i++)
@@ -44,13 +46,17 @@ static struct list send_places(const struct sending *sending, uint64_t places, u
     return (struct list){{0}};
 }
 
-/* "send | 7, 4, 11". */
+/* "send | 17, 7, 8, 4, 11"; without a place, 8 is for the book alone. */
 void send_page(const struct sending *sending, struct sent *sent)
 {
     const struct table *table = &sending->table;
     const struct judgment judgment = judge(table->bytes, table->size);
-    if (judgment.faults)
+    if (is_no_number_of_books(sending->books))
+        sent->list = (struct list){{17}};
+    else if (judgment.faults)
         sent->list = (struct list){{7, judgment.row}};
+    else if (sending->book >= sending->books)
+        sent->list = (struct list){{8}};
     else if (sending->run_length != coordinates_before(table, judgment.places) ||
              sending->buffer_length != RECORD_SIZE * judgment.places)
         sent->list = (struct list){{4}};

@@ -13,9 +13,12 @@ enum {
     SENT_ITEMS = 3                         /* the most items of the list that send answers */
 };
 
-/* What send is lent. The lengths may be any numbers; of the room for the coefficients some may be unused. */
+/* What send is lent, and the book. The numbers and the lengths may be any; of the room for the coefficients some may be
+   unused. */
 struct sending {
     struct table table;
+    uint64_t books;                  /* how many there are */
+    uint64_t book;
     uint64_t run_length;             /* in coefficients */
     uint64_t buffer_length;          /* in bytes */
     uint32_t run[MOST_SENT + SPARE]; /* the bits of each f32 */
@@ -23,7 +26,7 @@ struct sending {
 
 /* What send must answer, and what the buffer must then hold; after a refusal nothing is said of the records. */
 struct sent {
-    struct list list; /* 0; or 7 and the row; or 4; or 11, the place and the coordinate */
+    struct list list; /* 0; or 17; or 7 and the row; or 8; or 4; or 11, the place in the book and the coordinate */
     uint8_t records[RECORD_SIZE * MOST_PLACES];
 };
 

@@ -1,21 +1,24 @@
 // Whether refusal 12 is given for a cell, and the page rule.
+use crate::inner::spot::Spot;
 use layout::inner::record_at;
 use layout::inner::set_cell;
 use layout::inner::state_at;
-use records::inner::place_in;
-use records::inner::row_in;
+use records::inner::Named;
+use records::inner::named_in;
 use records::inner::same;
 ghost use mathlib.Core.Path.{_≡_};
 ghost use lib.ListN.{length};
 ghost use Rattle.records.specs.Record.{recordLength};
 ghost use Rattle.layout.specs.Bounds.{InPage};
 ghost use Rattle.layout.specs.Layout.{cellAt, setCell};
-ghost use Rattle.rules.specs.Taking.{badCell, arriveCell, takeCell};
+ghost use Rattle.rules.specs.Taking.{arriveCell, takeCell};
+ghost use Rattle.cells.specs.Spots.{SpotIn, cellThere, badNamed, badThere};
 
-// Whether the cell of a place in this row has a state above 2, or holds a record of another place or another row.
-fn bad_cell(place: usize, row: usize, state: u8, bytes: &[u8]) -> bool
+// Whether the cell of a place has a state above 2, or holds a record of another book, another place or another row than
+// these.
+fn bad_cell(named: Named, state: u8, bytes: &[u8]) -> bool
     requires { ⌜ length (now bytes) ≡ recordLength ⌝ }
-    ensures { λ b. ⌜ b ≡ badCell place row (record { state = state; bytes = now (bytes .entry) }) ⌝ }
+    ensures { λ b. ⌜ b ≡ badNamed named (record { state = state; bytes = now (bytes .entry) }) ⌝ }
 {
     if 2 < state {
         return true;
@@ -23,50 +26,56 @@ fn bad_cell(place: usize, row: usize, state: u8, bytes: &[u8]) -> bool
     if state != 1 {
         return false;
     }
-    if place_in(bytes) != place {
+    let held = named_in(bytes);
+    if held.book != named.book {
         return true;
     }
-    row_in(bytes) != row
+    if held.place != named.place {
+        return true;
+    }
+    held.row != named.row
 }
 
-// The same of a place in a page.
-pub fn bad_at(page: &[u8], places: usize, place: usize, row: usize) -> bool
-    requires { ⌜ InPage (now page) places place ⌝ }
-    ensures { λ b. ⌜ b ≡ badCell place row (cellAt (now (page .entry)) place) ⌝ }
+// The same of the cell of a place.
+pub fn bad_at(page: &[u8], spot: Spot) -> bool
+    requires { ⌜ SpotIn (now page) spot ⌝ }
+    ensures { λ b. ⌜ b ≡ badThere (now (page .entry)) spot ⌝ }
 {
-    let state = state_at(page, places, place);
-    bad_cell(place, row, state, record_at(page, places, place))
+    let state = state_at(page, spot.cells, spot.cell);
+    let named = spot.named;
+    bad_cell(named, state, record_at(page, spot.cells, spot.cell))
 }
 
 // The page rule: empty becomes held, held with other bytes becomes contested, and otherwise the cell stays.
-fn take_cell(page: &mut [u8], places: usize, place: usize, bytes: &[u8])
-    requires { ⌜ InPage (now page) places place × (length (now bytes) ≡ recordLength) ⌝ }
-    ensures { λ _. ⌜ now (page .exit) ≡ setCell (now (page .entry)) place (takeCell (now (bytes .entry)) (cellAt (now (page .entry)) place)) ⌝ }
+fn take_cell(page: &mut [u8], cells: usize, cell: usize, bytes: &[u8])
+    requires { ⌜ InPage (now page) cells cell × (length (now bytes) ≡ recordLength) ⌝ }
+    ensures { λ _. ⌜ now (page .exit) ≡ setCell (now (page .entry)) cell (takeCell (now (bytes .entry)) (cellAt (now (page .entry)) cell)) ⌝ }
 {
-    let state = state_at(page, places, place);
+    let state = state_at(page, cells, cell);
     if state == 0 {
-        set_cell(page, places, place, 1, bytes);
+        set_cell(page, cells, cell, 1, bytes);
         return;
     }
     if state != 1 {
         return;
     }
-    if same(record_at(page, places, place), bytes) {
+    if same(record_at(page, cells, cell), bytes) {
         return;
     }
     let zeros = [0u8; 8];
-    set_cell(page, places, place, 2, &zeros);
+    set_cell(page, cells, cell, 2, &zeros);
 }
 
-// A record into the cell of its place in this row, unless refusal 12 is given for it; whether it is given.
-pub fn arrive(page: &mut [u8], places: usize, place: usize, row: usize, bytes: &[u8]) -> bool
-    requires { ⌜ InPage (now page) places place × (length (now bytes) ≡ recordLength) ⌝ }
-    ensures { λ b. ⌜ (b ≡ badCell place row (cellAt (now (page .entry)) place))
-        × (now (page .exit) ≡ setCell (now (page .entry)) place (arriveCell place row (now (bytes .entry)) (cellAt (now (page .entry)) place))) ⌝ }
+// A record into the cell of the place that it names, unless refusal 12 is given for the cell; whether it is given.
+pub fn arrive(page: &mut [u8], spot: Spot, bytes: &[u8]) -> bool
+    requires { ⌜ SpotIn (now page) spot × (length (now bytes) ≡ recordLength) ⌝ }
+    ensures { λ b. ⌜ (b ≡ badThere (now (page .entry)) spot)
+        × (now (page .exit) ≡ setCell (now (page .entry)) (spot .cell)
+        (arriveCell (spot .named .book) (spot .named .place) (spot .named .row) (now (bytes .entry)) (cellThere (now (page .entry)) spot))) ⌝ }
 {
-    if bad_at(page, places, place, row) {
+    if bad_at(page, spot) {
         return true;
     }
-    take_cell(page, places, place, bytes);
+    take_cell(page, spot.cells, spot.cell, bytes);
     false
 }

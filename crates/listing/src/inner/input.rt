@@ -2,6 +2,8 @@
 use files::inner::reading::fill;
 use files::inner::reading::open;
 use page::collect;
+use tables::Books;
+use tables::ONE_BOOK;
 ghost use Rattle.listing.specs.Took.{Took};
 
 // A loop has to have an end, and nothing says that a file has one. 2^48 blocks of 2^16 bytes are 2^64 bytes, more
@@ -22,11 +24,11 @@ pub fn take_records(table: &[u8], page: &mut [u8]) -> u64
     let mut turns: u64 = 0;
     let mut n = fill(fd, path, &mut block);
     while n == 65536 && turns < MOST_TURNS {
-        refused += collect(table, page, &block) as u64;
+        refused += collect(table, Books(ONE_BOOK), page, &block) as u64;
         n = fill(fd, path, &mut block);
         turns += 1;
     }
-    refused += collect(table, page, &block[..n]) as u64;
+    refused += collect(table, Books(ONE_BOOK), page, &block[..n]) as u64;
     libc::close(fd);
     refused
 }

@@ -9,13 +9,25 @@ use report::last_line;
 use report::lines;
 use rules::MENDING;
 use rules::Mode;
+use tables::Book;
+use tables::Books;
+use tables::ONE_BOOK;
+use tables::ONLY_BOOK;
 
 // Prints the page: the lines of its places, and the last line.
 pub fn print_page(table: &[u8], page: &[u8], places: usize, refused: u64) {
     let mut out = io::large_buffer();
     let mut from = 0;
     while from < places {
-        match lines(Mode(MENDING), table, page, from, &mut out) {
+        match lines(
+            Mode(MENDING),
+            table,
+            Books(ONE_BOOK),
+            Book(ONLY_BOOK),
+            page,
+            from,
+            &mut out,
+        ) {
             Listed::Written { to, size } => {
                 if !put(&out[..size]) {
                     return;
@@ -33,7 +45,7 @@ pub fn print_page(table: &[u8], page: &[u8], places: usize, refused: u64) {
 
 // Prints the last line.
 fn print_tally(table: &[u8], page: &[u8], refused: u64) {
-    match tally(Mode(MENDING), table, page) {
+    match tally(Mode(MENDING), table, Books(ONE_BOOK), Book(ONLY_BOOK), page) {
         Tallied::Counted(counts) => {
             let mut out = [0u8; 256];
             match last_line(counts, refused, &mut out) {

@@ -1,5 +1,5 @@
--- `page::collect` takes a run of records: all parts are refused where the table or the page is, or else what is
--- done behind their checks.
+-- `page::collect` takes a run of records: all parts are refused where the books, the table or the page are, or else
+-- what is done behind their checks.
 use mathlib.Core.Path.{sym, ap, _∙_}
 use borrow.Author.Needs.{needs}
 use Rattle.pairing.proofs.Surveys.{survey-fails}
@@ -10,14 +10,14 @@ use Rattle.page.proofs.collect.Statement.{statement}
 use Rattle.page.proofs.collect.Tie as tie
 
 collect-records-requires : tie.Need-collect-records-requires
-collect-records-requires c κs = let a = c .before .before .before .before .before .before .before .before .before .args in page-ready (a .table .now) (a .page .now) 0 (c .before .before .before .before .survey-page .ensures) (c .before .before .places .given .1)
+collect-records-requires c κs = let a = c .before .before .before .before .before .before .before .before .before .args in page-ready (a .table .now) (a .books .0) (a .page .now) 0 (c .before .before .before .before .survey-page .ensures) (c .before .before .places .given .1)
 
 returns-2 : tie.Need-returns-2
 returns-2 c =
     let a = c .before .before .before .before .before .before .before .before .args in
     let t = a .table .now in
     let pg = a .page .now in
-    let all = shut-collected t pg (a .bytes .now) (survey-fails (pageChecks t pg) t 0 (c .before .before .before .survey-page .ensures) (c .before .enum-told .given .1)) in
+    let all = shut-collected t (a .books .0) pg (a .bytes .now) (survey-fails (pageChecks t (a .books .0) pg) t 0 (c .before .before .before .survey-page .ensures) (c .before .enum-told .given .1)) in
     (c .parts .ensures ∙ ap (λ (s : Received). s .refused) (sym all), ap (λ (s : Received). s .page) (sym all))
 
 pub collect-spec : {M : Type 1} → statement M

@@ -1,5 +1,5 @@
 -- `page::take` says what the call take is to say and leaves what it is to leave: a refusal of the checks of the
--- table and the page, and the page as it was; or else what is said and left behind them.
+-- books, the table and the page, and the page as it was; or else what is said and left behind them.
 use mathlib.Core.List.{[], _∷_}
 use mathlib.Core.Path.{_∙_}
 use borrow.Author.Needs.{needs}
@@ -19,8 +19,8 @@ take-record-requires c κs =
     let named = c .before .before .before .before .before .before .place-named in
     let says = c .before .before .before .before .before .survey-page .ensures in
     let told = c .before .before .before .places .given .1 in
-    let found = page-found t pg (named .result) says told in
-    (page-ready t pg (named .result) says told, tells-by t (a .bytes .now) (named .ensures) (found .is-row) (c .before .names-other-row .ensures))
+    let found = page-found t (a .books .0) pg (named .result) says told in
+    (page-ready t (a .books .0) pg (named .result) says told, tells-by t (a .bytes .now) (named .ensures) (found .is-row) (c .before .names-other-row .ensures))
 
 returns : tie.Need-returns
 returns c =
@@ -28,9 +28,9 @@ returns c =
     let t = a .table .now in
     let pg = a .page .now in
     let x = a .bytes .now in
-    let passes = page-ready t pg (c .before .before .before .before .before .before .before .before .before .place-named .result) (c .before .before .before .before .before .before .before .before .survey-page .ensures) (c .before .before .before .before .before .before .places .given .1) .passes in
+    let passes = page-ready t (a .books .0) pg (c .before .before .before .before .before .before .before .before .before .place-named .result) (c .before .before .before .before .before .before .before .before .survey-page .ensures) (c .before .before .before .before .before .before .places .given .1) .passes in
     let did = c .before .before .take-record .ensures in
-    (did .0 ∙ passed-says (pageChecks t pg) (takeRest t pg x) (0 ∷ []) passes, did .1 ∙ passed-leaves (pageChecks t pg) (takeRest t pg x) (takeInto pg x) pg passes)
+    (did .0 ∙ passed-says (pageChecks t (a .books .0) pg) (takeRest t (a .books .0) pg x) (0 ∷ []) passes, did .1 ∙ passed-leaves (pageChecks t (a .books .0) pg) (takeRest t (a .books .0) pg x) (takeInto t pg x) pg passes)
 
 returns-2 : tie.Need-returns-2
 returns-2 c =
@@ -41,7 +41,7 @@ returns-2 c =
     let p = c .before .before .before .before .place-named .result in
     let says = c .before .before .before .survey-page .ensures in
     let told = c .before .refusal .given .1 in
-    (survey-says (pageChecks t pg) t p says told (takeRest t pg x) (0 ∷ []), survey-leaves (pageChecks t pg) t p says told (takeRest t pg x) (takeInto pg x) pg)
+    (survey-says (pageChecks t (a .books .0) pg) t p says told (takeRest t (a .books .0) pg x) (0 ∷ []), survey-leaves (pageChecks t (a .books .0) pg) t p says told (takeRest t (a .books .0) pg x) (takeInto t pg x) pg)
 
 pub take-spec : {M : Type 1} → statement M
 take-spec =

@@ -1,5 +1,5 @@
--- `page::tally` says what the call tally is to say: a refusal of the checks of the mode, the table and the page; or
--- else what is said behind them.
+-- `page::tally` says what the call tally is to say: a refusal of the checks of the mode, the books, the table, the
+-- book and the page; or else what is said behind them.
 use mathlib.Core.List.{_∷_}
 use mathlib.Core.Path.{_∙_}
 use borrow.Author.Needs.{needs}
@@ -17,22 +17,23 @@ tally-page-requires c κs =
     let pg = a .page .now in
     let says = c .before .before .before .survey-whole .ensures in
     let told = c .before .places .given .1 in
-    (whole-ready (a .mode .0) t pg says told, whole-found (a .mode .0) t pg says told .is-row)
+    let ready = whole-ready (a .mode .0) t (a .books .0) (a .book .0) pg says told in
+    (ready .0, ready .1, whole-found (a .mode .0) t (a .books .0) (a .book .0) pg says told .is-row)
 
 returns : tie.Need-returns
 returns c =
     let a = c .before .before .before .before .before .before .before .args in
     let t = a .table .now in
     let pg = a .page .now in
-    let found = whole-found (a .mode .0) t pg (c .before .before .before .before .survey-whole .ensures) (c .before .before .places .given .1) in
-    c .tally-page .ensures ∙ passed-says (wholeChecks (a .mode .0) t pg) (tallyRest t pg) (0 ∷ tallyOf (a .mode .0) t pg) (found .passes)
+    let found = whole-found (a .mode .0) t (a .books .0) (a .book .0) pg (c .before .before .before .before .survey-whole .ensures) (c .before .before .places .given .1) in
+    c .tally-page .ensures ∙ passed-says (wholeChecks (a .mode .0) t (a .books .0) (a .book .0) pg) (tallyRest t pg (a .book .0)) (0 ∷ tallyOf (a .mode .0) t pg (a .book .0)) (found .passes)
 
 returns-2 : tie.Need-returns-2
 returns-2 c =
     let a = c .before .before .before .before .before .before .args in
     let t = a .table .now in
     let pg = a .page .now in
-    survey-says (wholeChecks (a .mode .0) t pg) t 0 (c .before .before .before .survey-whole .ensures) (c .before .refusal .given .1) (tallyRest t pg) (0 ∷ tallyOf (a .mode .0) t pg)
+    survey-says (wholeChecks (a .mode .0) t (a .books .0) (a .book .0) pg) t 0 (c .before .before .before .survey-whole .ensures) (c .before .refusal .given .1) (tallyRest t pg (a .book .0)) (0 ∷ tallyOf (a .mode .0) t pg (a .book .0))
 
 pub tally-spec : {M : Type 1} → statement M
 tally-spec =

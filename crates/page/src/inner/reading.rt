@@ -5,6 +5,7 @@ use crate::Value;
 use crate::Valued;
 use answers::Refusal;
 use cells::inner::judging::Seen;
+use cells::inner::spot::Spot;
 use floats::inner::over_256;
 use places::inner::looking::Looked;
 use places::inner::looking::look;
@@ -20,12 +21,12 @@ ghost use lib.IntN.{pos, natAbs, _*ℤ_};
 ghost use lib.ListN as listed;
 ghost use Rattle.answers.specs.Checks.{firstOf, leaves};
 ghost use Rattle.floats.specs.Exact.{over256};
-ghost use Rattle.layout.specs.Bounds.{InPage};
-ghost use Rattle.layout.specs.Layout.{cellAt};
 ghost use Rattle.tables.specs.Row.{lengthOf, IsRow};
 ghost use Rattle.rules.specs.Judging.{judge, shown, Shows};
-ghost use Rattle.rules.specs.Reading.{told, carried, carriedBy, valueIn, readRest, coefficientRest};
+ghost use Rattle.rules.specs.Reading.{told, carried, carriedBy, valueIn};
 ghost use Rattle.cells.specs.Seen.{Handed};
+ghost use Rattle.cells.specs.Spots.{SpotIn, cellThere};
+ghost use Rattle.page.specs.Bounds.{readThere, coefficientThere};
 ghost use Rattle.page.specs.Meanings.{answerMeaning, readMeaning, valueMeaning, valuesIn, coefficientMeaning, coefficientValues};
 
 // The answer that a caller sees.
@@ -48,29 +49,21 @@ fn answer(judged: Judged) -> Answer
     }
 }
 
-// What read does at a place of this row, which has this number: the checks 4 and 12, and the work.
-pub fn read_at(
-    mode: Mode,
-    row: &[u8],
-    number: usize,
-    page: &[u8],
-    places: usize,
-    place: usize,
-    out: &mut [i32],
-) -> Reading
-    requires { ⌜ IsRow (now row) × InPage (now page) places place ⌝ }
+// What read does at the cell of a place in this row: the checks 4 and 12, and the work.
+pub fn read_at(mode: Mode, row: &[u8], page: &[u8], spot: Spot, out: &mut [i32]) -> Reading
+    requires { ⌜ IsRow (now row) × SpotIn (now page) spot ⌝ }
     ensures says { λ r. ⌜ readMeaning r
-        ≡ firstOf (readRest (now (row .entry)) number (now (page .entry)) place (listed.length (now (out .entry))))
-        (told (judge (mode .0) (now (row .entry)) (cellAt (now (page .entry)) place))) ⌝ }
+        ≡ firstOf (readThere (now (row .entry)) (spot .named) (cellThere (now (page .entry)) spot) (listed.length (now (out .entry))))
+        (told (judge (mode .0) (now (row .entry)) (cellThere (now (page .entry)) spot))) ⌝ }
     ensures leaves { λ r. ⌜ now (out .exit)
-        ≡ leaves (readRest (now (row .entry)) number (now (page .entry)) place (listed.length (now (out .entry))))
-        (shown (now (row .entry)) (judge (mode .0) (now (row .entry)) (cellAt (now (page .entry)) place)))
+        ≡ leaves (readThere (now (row .entry)) (spot .named) (cellThere (now (page .entry)) spot) (listed.length (now (out .entry))))
+        (shown (now (row .entry)) (judge (mode .0) (now (row .entry)) (cellThere (now (page .entry)) spot)))
         (now (out .entry)) ⌝ }
 {
     if out.len() != length(row).0 {
         return Reading::Refused(Refusal::BufferLength);
     }
-    match look(mode, row, number, page, places, place) {
+    match look(mode, row, page, spot) {
         Looked::Bad => Reading::Refused(Refusal::BadCell),
         Looked::At(seen) => {
             show(row, seen, out);
@@ -121,28 +114,20 @@ fn valued(judged: Judged, v: f32) -> Value
     }
 }
 
-// What coefficient does at a place of this row, which has this number: the checks 13 and 12, and the work.
-pub fn coefficient_at(
-    mode: Mode,
-    row: &[u8],
-    number: usize,
-    page: &[u8],
-    places: usize,
-    place: usize,
-    coordinate: usize,
-) -> Valued
-    requires { ⌜ IsRow (now row) × InPage (now page) places place ⌝ }
+// What coefficient does at the cell of a place in this row: the checks 13 and 12, and the work.
+pub fn coefficient_at(mode: Mode, row: &[u8], page: &[u8], spot: Spot, coordinate: usize) -> Valued
+    requires { ⌜ IsRow (now row) × SpotIn (now page) spot ⌝ }
     ensures says { λ r. ⌜ coefficientMeaning r
-        ≡ firstOf (coefficientRest (now (row .entry)) number (now (page .entry)) place coordinate)
-        (told (judge (mode .0) (now (row .entry)) (cellAt (now (page .entry)) place))) ⌝ }
+        ≡ firstOf (coefficientThere (now (row .entry)) (spot .named) (cellThere (now (page .entry)) spot) coordinate)
+        (told (judge (mode .0) (now (row .entry)) (cellThere (now (page .entry)) spot))) ⌝ }
     ensures carries { λ r. ⌜ coefficientValues r
-        ≡ leaves (coefficientRest (now (row .entry)) number (now (page .entry)) place coordinate)
-        (carriedBy (now (row .entry)) (judge (mode .0) (now (row .entry)) (cellAt (now (page .entry)) place)) coordinate) [] ⌝ }
+        ≡ leaves (coefficientThere (now (row .entry)) (spot .named) (cellThere (now (page .entry)) spot) coordinate)
+        (carriedBy (now (row .entry)) (judge (mode .0) (now (row .entry)) (cellThere (now (page .entry)) spot)) coordinate) [] ⌝ }
 {
     if length(row).0 <= coordinate {
         return Valued::Refused(Refusal::NoSuchCoordinate);
     }
-    match look(mode, row, number, page, places, place) {
+    match look(mode, row, page, spot) {
         Looked::Bad => Valued::Refused(Refusal::BadCell),
         Looked::At(seen) => {
             let judged = seen.judged;

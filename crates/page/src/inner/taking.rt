@@ -2,11 +2,12 @@
 use crate::Arrival;
 use answers::Refusal;
 use cells::inner::rule::arrive;
+use cells::inner::spot::locate;
 use pairing::inner::starts::is_foreign;
 use pairing::inner::starts::row_starts;
-use records::inner::place_in;
-use records::inner::row_in;
+use records::inner::named_in;
 use records::inner::wrong_record;
+use tables::Books;
 ghost use mathlib.Core.List.{[], _∷_};
 ghost use mathlib.Core.Path.{_≡_};
 ghost use Prim.Native.Nat.{_+_, _/_, _≤_, _<_, min};
@@ -24,7 +25,7 @@ pub fn place_named(bytes: &[u8]) -> usize
     if wrong_record(bytes.len()) {
         return 0;
     }
-    place_in(bytes)
+    named_in(bytes).place
 }
 
 // Whether a record names another row than this one; what is no record names none.
@@ -34,35 +35,40 @@ pub fn names_other_row(bytes: &[u8], row: usize) -> bool
     if wrong_record(bytes.len()) {
         return false;
     }
-    row_in(bytes) != row
+    named_in(bytes).row != row
 }
 
-// What take does with a table and a page that passed: the checks 4, 8, 9 and 12, and the work. `foreign` tells 9 of a
-// record whose place is in the table. The table is what the contract speaks of.
+// What take does with books, a table and a page that passed: the checks 4, 8, 9 and 12, and the work. `foreign` tells 9
+// of a record whose place is in the table. The table is what the contract speaks of.
 pub fn take_record(
     table: &[u8],
     places: usize,
+    books: Books,
     foreign: bool,
     page: &mut [u8],
     bytes: &[u8],
 ) -> Arrival
-    requires { ⌜ Ready (now table) (now page) places × Tells (now table) (now bytes) foreign ⌝ }
-    ensures { λ r. ⌜ (takeMeaning r ≡ firstOf (takeRest (now (table .entry)) (now (page .entry)) (now (bytes .entry))) (0 ∷ []))
+    requires { ⌜ Ready (now table) (books .0) (now page) places × Tells (now table) (now bytes) foreign ⌝ }
+    ensures { λ r. ⌜ (takeMeaning r ≡ firstOf (takeRest (now (table .entry)) (books .0) (now (page .entry)) (now (bytes .entry))) (0 ∷ []))
         × (now (page .exit)
-        ≡ leaves (takeRest (now (table .entry)) (now (page .entry)) (now (bytes .entry)))
-        (takeInto (now (page .entry)) (now (bytes .entry))) (now (page .entry))) ⌝ }
+        ≡ leaves (takeRest (now (table .entry)) (books .0) (now (page .entry)) (now (bytes .entry)))
+        (takeInto (now (table .entry)) (now (page .entry)) (now (bytes .entry))) (now (page .entry))) ⌝ }
 {
     if wrong_record(bytes.len()) {
         return Arrival::Refused(Refusal::BufferLength);
     }
-    let place = place_in(bytes);
-    if places <= place {
+    let named = named_in(bytes);
+    if books.0 <= named.book {
+        return Arrival::Refused(Refusal::NoSuchPlace);
+    }
+    if places <= named.place {
         return Arrival::Refused(Refusal::NoSuchPlace);
     }
     if foreign {
         return Arrival::Refused(Refusal::ForeignRow);
     }
-    if arrive(page, places, place, row_in(bytes), bytes) {
+    let spot = locate(places, books.0, named);
+    if arrive(page, spot, bytes) {
         return Arrival::Refused(Refusal::BadCell);
     }
     Arrival::Taken
@@ -77,28 +83,29 @@ fn is_foreign_part(table: &[u8], places: usize, starts: &[usize], bytes: &[u8]) 
     if wrong_record(bytes.len()) {
         return false;
     }
-    let place = place_in(bytes);
-    if places <= place {
+    let named = named_in(bytes);
+    if places <= named.place {
         return false;
     }
-    is_foreign(table, starts, row_in(bytes), place)
+    is_foreign(table, starts, named.row, named.place)
 }
 
-// What take does with a table and a page that passed, by where the rows begin: 1 for a refusal, and 0 for a record that
-// is taken.
+// What take does with books, a table and a page that passed, by where the rows begin: 1 for a refusal, and 0 for a
+// record that is taken.
 fn refusals_of(
     table: &[u8],
     places: usize,
+    books: Books,
     starts: &[usize],
     page: &mut [u8],
     bytes: &[u8],
 ) -> usize
-    requires { ⌜ Takes (now table) (now page) places (now starts) ⌝ }
-    ensures { λ r. ⌜ (r ≡ refusals (now (table .entry)) (now (page .entry)) (now (bytes .entry)))
-        × (now (page .exit) ≡ takeLeaves (now (table .entry)) (now (page .entry)) (now (bytes .entry))) × (r ≤ 1) ⌝ }
+    requires { ⌜ Takes (now table) (books .0) (now page) places (now starts) ⌝ }
+    ensures { λ r. ⌜ (r ≡ refusals (now (table .entry)) (books .0) (now (page .entry)) (now (bytes .entry)))
+        × (now (page .exit) ≡ takeLeaves (now (table .entry)) (books .0) (now (page .entry)) (now (bytes .entry))) × (r ≤ 1) ⌝ }
 {
     let foreign = is_foreign_part(table, places, starts, bytes);
-    match take_record(table, places, foreign, page, bytes) {
+    match take_record(table, places, books, foreign, page, bytes) {
         Arrival::Taken => 0,
         Arrival::Refused(_) => 1,
     }
@@ -125,35 +132,42 @@ pub fn parts(bytes: usize) -> usize
     bytes / 8 + 1
 }
 
-// What collect does with a table and a page that passed, by where the rows begin.
+// What collect does with books, a table and a page that passed, by where the rows begin.
 fn collect_parts(
     table: &[u8],
     places: usize,
+    books: Books,
     starts: &[usize],
     page: &mut [u8],
     bytes: &[u8],
 ) -> usize
-    requires { ⌜ Takes (now table) (now page) places (now starts) ⌝ }
-    ensures { λ r. ⌜ (r ≡ collected (now (table .entry)) (now (page .entry)) (now (bytes .entry)) .refused)
-        × (now (page .exit) ≡ collected (now (table .entry)) (now (page .entry)) (now (bytes .entry)) .page) ⌝ }
+    requires { ⌜ Takes (now table) (books .0) (now page) places (now starts) ⌝ }
+    ensures { λ r. ⌜ (r ≡ collected (now (table .entry)) (books .0) (now (page .entry)) (now (bytes .entry)) .refused)
+        × (now (page .exit) ≡ collected (now (table .entry)) (books .0) (now (page .entry)) (now (bytes .entry)) .page) ⌝ }
 {
     let mut at = 0;
     let mut refused = 0;
     while at < bytes.len() {
         let end = part_end(at, bytes.len());
-        refused += refusals_of(table, places, starts, page, &bytes[at..end]);
+        refused += refusals_of(table, places, books, starts, page, &bytes[at..end]);
         at = end;
     }
     refused
 }
 
 // The same, once it is known where the rows begin.
-pub fn collect_records(table: &[u8], places: usize, page: &mut [u8], bytes: &[u8]) -> usize
-    requires { ⌜ Ready (now table) (now page) places ⌝ }
-    ensures { λ r. ⌜ (r ≡ collected (now (table .entry)) (now (page .entry)) (now (bytes .entry)) .refused)
-        × (now (page .exit) ≡ collected (now (table .entry)) (now (page .entry)) (now (bytes .entry)) .page) ⌝ }
+pub fn collect_records(
+    table: &[u8],
+    places: usize,
+    books: Books,
+    page: &mut [u8],
+    bytes: &[u8],
+) -> usize
+    requires { ⌜ Ready (now table) (books .0) (now page) places ⌝ }
+    ensures { λ r. ⌜ (r ≡ collected (now (table .entry)) (books .0) (now (page .entry)) (now (bytes .entry)) .refused)
+        × (now (page .exit) ≡ collected (now (table .entry)) (books .0) (now (page .entry)) (now (bytes .entry)) .page) ⌝ }
 {
     let mut starts = [0usize; 33];
     row_starts(table, &mut starts);
-    collect_parts(table, places, &starts, page, bytes)
+    collect_parts(table, places, books, &starts, page, bytes)
 }

@@ -1,36 +1,56 @@
-// The tally over a page, in one pass.
+// The tally over a book of a page, in one pass.
 use crate::Counts;
 use crate::Tallied;
 use answers::Refusal;
+use cells::inner::spot::locate;
 use pairing::inner::walking::walk_from;
 use pairing::inner::walking::walked;
 use places::inner::looking::Looked;
 use places::inner::looking::look;
 use places::inner::showing::answer_number;
+use records::inner::Named;
 use rows::inner::row::row_at;
 use rules::Mode;
+use tables::Book;
+use tables::Books;
 ghost use mathlib.Core.List.{_∷_};
 ghost use mathlib.Core.Path.{_≡_};
+ghost use Prim.Native.Nat.{_<_};
 ghost use Rattle.answers.specs.Checks.{firstOf};
 ghost use Rattle.rules.specs.Tallying.{tallyRest, tallyOf};
 ghost use Rattle.tables.specs.Table.{rowOf};
 ghost use Rattle.page.specs.Bounds.{Ready};
 ghost use Rattle.page.specs.Meanings.{tallyMeaning};
 
-// What tally does with a table and a page that passed, from the row of place 0 on: check 12 at every place, and the
-// counts on the way.
-pub fn tally_page(mode: Mode, table: &[u8], places: usize, row: usize, page: &[u8]) -> Tallied
-    requires { ⌜ Ready (now table) (now page) places × (row ≡ rowOf (now table) 0) ⌝ }
+// What tally does with books, a table, a book and a page that passed, from the row of place 0 on: check 12 at every
+// place of the book, and the counts on the way.
+pub fn tally_page(
+    mode: Mode,
+    table: &[u8],
+    places: usize,
+    books: Books,
+    book: Book,
+    row: usize,
+    page: &[u8],
+) -> Tallied
+    requires { ⌜ Ready (now table) (books .0) (now page) places × (book .0 < books .0) × (row ≡ rowOf (now table) 0) ⌝ }
     ensures { λ r. ⌜ tallyMeaning r
-        ≡ firstOf (tallyRest (now (table .entry)) (now (page .entry))) (0 ∷ tallyOf (mode .0) (now (table .entry)) (now (page .entry))) ⌝ }
+        ≡ firstOf (tallyRest (now (table .entry)) (now (page .entry)) (book .0))
+        (0 ∷ tallyOf (mode .0) (now (table .entry)) (now (page .entry)) (book .0)) ⌝ }
 {
     let mut counts = [0usize; 5];
     let mut walk = walk_from(table, row, 0);
     let mut place = 0;
     while place < places {
         walk = walked(table, walk, place);
-        let number = walk.row;
-        match look(mode, row_at(table, number), number, page, places, place) {
+        let row = walk.row;
+        let named = Named {
+            book: book.0,
+            place,
+            row,
+        };
+        let spot = locate(places, books.0, named);
+        match look(mode, row_at(table, row), page, spot) {
             Looked::Bad => return Tallied::Refused(Refusal::BadCellAt { place }),
             Looked::At(seen) => {
                 let judged = seen.judged;

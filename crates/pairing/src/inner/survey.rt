@@ -7,7 +7,7 @@ use rows::inner::row::places;
 use rows::inner::row::row_at;
 ghost use mathlib.Core.Path.{_≡_};
 ghost use lib.ListN.{length};
-ghost use Rattle.tables.specs.Table.{wrongSize, tableChecks, placeChecks, surveySays};
+ghost use Rattle.tables.specs.Table.{wrongSize, tableChecks, surveySays};
 ghost use Rattle.pairing.specs.Meanings.{surveyMeaning};
 
 pub enum Surveyed {
@@ -57,19 +57,4 @@ pub fn survey(table: &[u8], place: usize) -> Surveyed
         at += 1;
     }
     Surveyed::Good { places: sum, row }
-}
-
-// The table, and the place.
-pub fn survey_place(table: &[u8], place: usize) -> Surveyed
-    ensures { λ r. ⌜ surveyMeaning r ≡ surveySays (placeChecks (now (table .entry)) place) (now (table .entry)) place ⌝ }
-{
-    match survey(table, place) {
-        Surveyed::Good { places, row } => {
-            if places <= place {
-                return Surveyed::Bad(Refusal::NoSuchPlace);
-            }
-            Surveyed::Good { places, row }
-        }
-        Surveyed::Bad(refusal) => Surveyed::Bad(refusal),
-    }
 }

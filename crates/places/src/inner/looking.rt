@@ -2,12 +2,12 @@
 use cells::inner::judging::Seen;
 use cells::inner::judging::judge;
 use cells::inner::rule::bad_at;
+use cells::inner::spot::Spot;
 use layout::inner::record_at;
 use layout::inner::state_at;
 use rules::Mode;
 ghost use Rattle.cells.specs.Seen.{Sees};
-ghost use Rattle.layout.specs.Bounds.{InPage};
-ghost use Rattle.layout.specs.Layout.{cellAt};
+ghost use Rattle.cells.specs.Spots.{SpotIn, cellThere};
 ghost use Rattle.tables.specs.Row.{IsRow};
 ghost use Rattle.places.specs.Looking.{Looks};
 
@@ -17,28 +17,21 @@ pub enum Looked {
 }
 
 // The answer of the cell of a place in this row, in this mode.
-pub fn judge_at(mode: Mode, row: &[u8], page: &[u8], places: usize, place: usize) -> Seen
-    requires { ⌜ IsRow (now row) × InPage (now page) places place ⌝ }
-    ensures { λ seen. ⌜ Sees (mode .0) (now (row .entry)) (cellAt (now (page .entry)) place) seen ⌝ }
+pub fn judge_at(mode: Mode, row: &[u8], page: &[u8], spot: Spot) -> Seen
+    requires { ⌜ IsRow (now row) × SpotIn (now page) spot ⌝ }
+    ensures { λ seen. ⌜ Sees (mode .0) (now (row .entry)) (cellThere (now (page .entry)) spot) seen ⌝ }
 {
-    let state = state_at(page, places, place);
-    judge(mode, row, state, record_at(page, places, place))
+    let state = state_at(page, spot.cells, spot.cell);
+    judge(mode, row, state, record_at(page, spot.cells, spot.cell))
 }
 
-// A place in this row, which has this number.
-pub fn look(
-    mode: Mode,
-    row: &[u8],
-    number: usize,
-    page: &[u8],
-    places: usize,
-    place: usize,
-) -> Looked
-    requires { ⌜ IsRow (now row) × InPage (now page) places place ⌝ }
-    ensures { λ r. ⌜ Looks (mode .0) (now (row .entry)) number (now (page .entry)) place r ⌝ }
+// The cell of a place in this row.
+pub fn look(mode: Mode, row: &[u8], page: &[u8], spot: Spot) -> Looked
+    requires { ⌜ IsRow (now row) × SpotIn (now page) spot ⌝ }
+    ensures { λ r. ⌜ Looks (mode .0) (now (row .entry)) (spot .named) (cellThere (now (page .entry)) spot) r ⌝ }
 {
-    if bad_at(page, places, place, number) {
+    if bad_at(page, spot) {
         return Looked::Bad;
     }
-    Looked::At(judge_at(mode, row, page, places, place))
+    Looked::At(judge_at(mode, row, page, spot))
 }

@@ -1,6 +1,7 @@
 -- `report::lines` says what the call lines is to say and leaves what it is to leave: a refusal of the checks of the
--- mode, the table, the place and the page, and the buffer as it was; or else what is said and left behind them.
-use mathlib.Core.Path.{_∙_}
+-- mode, the books, the table, the book, the place and the page, and the buffer as it was; or else what is said and left
+-- behind them.
+use mathlib.Core.Path.{refl, _∙_}
 use native.Mathlib.Omega.{arith}
 use borrow.Author.Needs.{needs}
 use lib.ListN.{length}
@@ -15,21 +16,22 @@ use Rattle.report.proofs.lines.Tie as tie
 lines-from-requires : tie.Need-lines-from-requires
 lines-from-requires c κs =
     let a = c .before .before .before .before .before .before .before .before .args in
-    let found = look-found (a .mode .0) (a .table .now) (a .page .now) (a .from) (c .before .before .before .before .survey-look .ensures) (c .before .before .places .given .1) in
-    record { passes = found .passes; is-places = found .is-places; is-row = found .is-row }
+    let found = look-found (a .mode .0) (a .table .now) (a .books .0) (a .book .0) (a .page .now) (a .from) (c .before .before .before .before .survey-look .ensures) (c .before .before .places .given .1) in
+    record { passes = found .passes; is-places = found .is-places; is-row = found .is-row; to-end = refl }
 
 returns : tie.Need-returns
 returns c =
     let a = c .before .before .before .before .before .before .before .before .before .before .before .args in
     let t = a .table .now in
     let pg = a .page .now in
+    let book = a .book .0 in
     let held = a .out .now in
-    let checks = lookChecks (a .mode .0) t pg (a .from) in
-    let passes = look-found (a .mode .0) t pg (a .from) (c .before .before .before .before .before .before .before .survey-look .ensures) (c .before .before .before .before .before .places .given .1) .passes in
-    let rest = linesRest t pg (a .from) (length held) in
+    let checks = lookChecks (a .mode .0) t (a .books .0) book pg (a .from) in
+    let passes = look-found (a .mode .0) t (a .books .0) book pg (a .from) (c .before .before .before .before .before .before .before .survey-look .ensures) (c .before .before .before .before .before .places .given .1) .passes in
+    let rest = linesRest t pg book (a .from) (length held) in
     let did = c .before .before .lines-from .ensures in (
-      did .0 ∙ passed-says checks rest (linesAnswer (a .mode .0) t pg (a .from) (length held)) passes,
-      did .1 .0 ∙ passed-leaves checks rest (startingWith (linesText (a .mode .0) t pg (a .from) (length held)) held) held passes,
+      did .0 ∙ passed-says checks rest (linesAnswer (a .mode .0) t pg book (a .from) (length held)) passes,
+      did .1 .0 ∙ passed-leaves checks rest (startingWith (linesText (a .mode .0) t pg book (a .from) (length held)) held) held passes,
       did .1 .1,
     )
 
@@ -38,13 +40,14 @@ returns-2 c =
     let a = c .before .before .before .before .before .before .before .args in
     let t = a .table .now in
     let pg = a .page .now in
+    let book = a .book .0 in
     let held = a .out .now in
-    let checks = lookChecks (a .mode .0) t pg (a .from) in
+    let checks = lookChecks (a .mode .0) t (a .books .0) book pg (a .from) in
     let says = c .before .before .before .survey-look .ensures in
     let told = c .before .refusal .given .1 in
-    let rest = linesRest t pg (a .from) (length held) in (
-      survey-says checks t (a .from) says told rest (linesAnswer (a .mode .0) t pg (a .from) (length held)),
-      survey-leaves checks t (a .from) says told rest (startingWith (linesText (a .mode .0) t pg (a .from) (length held)) held) held,
+    let rest = linesRest t pg book (a .from) (length held) in (
+      survey-says checks t (a .from) says told rest (linesAnswer (a .mode .0) t pg book (a .from) (length held)),
+      survey-leaves checks t (a .from) says told rest (startingWith (linesText (a .mode .0) t pg book (a .from) (length held)) held) held,
       omega arith,
     )
 

@@ -2,10 +2,15 @@
 use floats::inner::from_pattern;
 use sending::Sending;
 use sending::send;
+use tables::Book;
+use tables::Books;
+use tables::ONE_BOOK;
+use tables::ONLY_BOOK;
 ghost use mathlib.Core.Path.{_≡_};
 ghost use Prim.Native.Nat.{_+_, _*_, _≤_, _<_};
 ghost use lib.ListN.{length, getD, take, drop};
 ghost use Rattle.octets.specs.Octets.{fromHigh};
+ghost use Rattle.tables.specs.BookNumbers.{oneBook, onlyBook};
 ghost use Rattle.runs.specs.File.{runOf, runRoom};
 ghost use Rattle.runs.specs.Sending.{sendSays, sendLeaves};
 ghost use Rattle.sending.specs.Meanings.{sendMeaning};
@@ -44,13 +49,19 @@ pub fn run_of(bytes: &[u8], out: &mut [f32]) -> usize
     count
 }
 
-// The call send for the run of these bytes.
+// The call send for the run of these bytes, in a page of one book.
 pub fn send_bytes(table: &[u8], bytes: &[u8], records: &mut [u8]) -> Sending
     requires { ⌜ length (now bytes) ≤ runRoom ⌝ }
-    ensures { λ r. ⌜ (sendMeaning r ≡ sendSays (now (table .entry)) (runOf (now (bytes .entry))) (now (records .entry)))
-        × (now (records .exit) ≡ sendLeaves (now (table .entry)) (runOf (now (bytes .entry))) (now (records .entry))) ⌝ }
+    ensures { λ r. ⌜ (sendMeaning r ≡ sendSays (now (table .entry)) oneBook onlyBook (runOf (now (bytes .entry))) (now (records .entry)))
+        × (now (records .exit) ≡ sendLeaves (now (table .entry)) oneBook onlyBook (runOf (now (bytes .entry))) (now (records .entry))) ⌝ }
 {
     let mut run = [0.0f32; 65537];
     let count = run_of(bytes, &mut run);
-    send(table, &run[..count], records)
+    send(
+        table,
+        Books(ONE_BOOK),
+        Book(ONLY_BOOK),
+        &run[..count],
+        records,
+    )
 }

@@ -1,4 +1,4 @@
-// A run of coefficients into the records of a page: first every coefficient is judged, and then the records are
+// A run of coefficients into the records of a book: first every coefficient is judged, and then the records are
 // written.
 use crate::Sending;
 use crate::inner::run::coordinates;
@@ -10,17 +10,20 @@ use coefficients::inner::coefficients::first_at_fault;
 use coefficients::inner::coefficients::some_unusable;
 use pairing::inner::walking::walk_from;
 use pairing::inner::walking::walked;
+use records::inner::Named;
 use rows::inner::row::length;
 use rows::inner::row::row_at;
+use tables::Book;
 ghost use mathlib.Core.Path.{_≡_};
 ghost use mathlib.Core.List.{[], _∷_};
-ghost use Prim.Native.Nat.{_+_, _*_};
+ghost use Prim.Native.Nat.{_+_, _*_, _<_};
 ghost use lib.ListN as listed;
 ghost use Rattle.answers.specs.Checks.{firstOf, leaves};
 ghost use Rattle.answers.specs.Refusals.{verdictMeaning};
 ghost use Rattle.buffers.specs.Written.{Wrote};
-ghost use Rattle.records.specs.Record.{recordLength, recordOf};
-ghost use Rattle.coding.specs.Coded.{radiusNumberFor, codewordFor};
+ghost use Rattle.tables.specs.BookNumbers.{mostBooks};
+ghost use Rattle.records.specs.Record.{recordLength};
+ghost use Rattle.coding.specs.Coded.{recordNamed};
 ghost use Rattle.runs.specs.Sending.{runChecks, sendRest, recordsOf};
 ghost use Rattle.sending.specs.Meanings.{sendMeaning};
 ghost use Rattle.sending.specs.Bounds.{Opened, Measured, Writable, Judged};
@@ -50,22 +53,22 @@ fn check_run(table: &[u8], places: usize, first: usize, run: &[f32]) -> Verdict
     Verdict::Passed
 }
 
-// The record of a vector at a place of this row, which has this number, where it stands in the buffer.
-fn write_at(row: &[u8], number: usize, place: usize, coefficients: &[f32], out: &mut [u8])
-    requires { ⌜ Writable (now row) (now coefficients) place (now out) ⌝ }
-    ensures { λ _. ⌜ Wrote (now (out .entry)) (recordLength * place)
-        (recordOf place number (radiusNumberFor (now (row .entry)) (now (coefficients .entry))) (codewordFor (now (row .entry)) (now (coefficients .entry))))
-        recordLength (recordLength * place + recordLength) (now (out .exit)) ⌝ }
+// The record of a vector in this row, with the book, the place and the row's number that it is to name, where the
+// record of that place stands in the buffer.
+fn write_at(row: &[u8], named: Named, coefficients: &[f32], out: &mut [u8])
+    requires { ⌜ Writable (now row) (now coefficients) named (now out) ⌝ }
+    ensures { λ _. ⌜ Wrote (now (out .entry)) (recordLength * named .place) (recordNamed named (now (row .entry)) (now (coefficients .entry)))
+        recordLength (recordLength * named .place + recordLength) (now (out .exit)) ⌝ }
 {
-    let from = 8 * place;
+    let from = 8 * named.place;
     let to = from + 8;
-    write_record(row, number, place, coefficients, &mut out[from..to]);
+    write_record(row, named, coefficients, &mut out[from..to]);
 }
 
-// The records of all places, in place order.
-fn write_records(table: &[u8], places: usize, first: usize, run: &[f32], out: &mut [u8])
-    requires { ⌜ Judged (now table) places first (now run) (now out) ⌝ }
-    ensures { λ _. ⌜ now (out .exit) ≡ recordsOf (now (table .entry)) (now (run .entry)) ⌝ }
+// The records of all places of a book, in place order.
+fn write_records(table: &[u8], places: usize, first: usize, book: Book, run: &[f32], out: &mut [u8])
+    requires { ⌜ Judged (now table) places first (book .0) (now run) (now out) ⌝ }
+    ensures { λ _. ⌜ now (out .exit) ≡ recordsOf (now (table .entry)) (book .0) (now (run .entry)) ⌝ }
 {
     let mut walk = walk_from(table, first, 0);
     let mut from = 0;
@@ -75,20 +78,33 @@ fn write_records(table: &[u8], places: usize, first: usize, run: &[f32], out: &m
         let number = walk.row;
         let row = row_at(table, number);
         let l = length(row).0;
-        write_at(row, number, place, vector_at(run, from, l), out);
+        let named = Named {
+            book: book.0,
+            place,
+            row: number,
+        };
+        write_at(row, named, vector_at(run, from, l), out);
         from += l;
         place += 1;
     }
 }
 
-// What send does with a table that passed: the checks 4, 4 and 11, and the work. `first` is the row of place 0.
-pub fn send_run(table: &[u8], places: usize, first: usize, run: &[f32], out: &mut [u8]) -> Sending
-    requires { ⌜ Opened (now table) places first ⌝ }
+// What send does with books, a table and a book that passed: the checks 4, 4 and 11, and the work. `first` is the row
+// of place 0.
+pub fn send_run(
+    table: &[u8],
+    places: usize,
+    first: usize,
+    book: Book,
+    run: &[f32],
+    out: &mut [u8],
+) -> Sending
+    requires { ⌜ Opened (now table) places first × (book .0 < mostBooks) ⌝ }
     ensures { λ r. ⌜ (sendMeaning r
         ≡ firstOf (sendRest (now (table .entry)) (now (run .entry)) (listed.length (now (out .entry)))) (0 ∷ []))
         × (now (out .exit)
         ≡ leaves (sendRest (now (table .entry)) (now (run .entry)) (listed.length (now (out .entry))))
-        (recordsOf (now (table .entry)) (now (run .entry))) (now (out .entry))) ⌝ }
+        (recordsOf (now (table .entry)) (book .0) (now (run .entry))) (now (out .entry))) ⌝ }
 {
     if run.len() != coordinates(table) {
         return Sending::Refused(Refusal::BufferLength);
@@ -98,7 +114,7 @@ pub fn send_run(table: &[u8], places: usize, first: usize, run: &[f32], out: &mu
     }
     match check_run(table, places, first, run) {
         Verdict::Passed => {
-            write_records(table, places, first, run, out);
+            write_records(table, places, first, book, run, out);
             Sending::Written
         }
         Verdict::Refused(refusal) => Sending::Refused(refusal),

@@ -7,10 +7,10 @@ use Rattle.cases.proofs.lines.run.Statement.{statement}
 use Rattle.cases.proofs.lines.run.Tie as tie
 
 abbrev Inv-loop : tie.InvT-loop
-Inv-loop text room₀ from₀ room from = length room ≡ length room₀
+Inv-loop text room₀ shelf₀ from₀ room shelf from = length room ≡ length room₀
 
 abbrev μ-loop : tie.MeasureT-loop
-μ-loop text room₀ from₀ room from = length text - from
+μ-loop text room₀ shelf₀ from₀ room shelf from = length text - from
 
 pub run-spec : {M : Type 1} → statement M
 run-spec =
@@ -18,6 +18,7 @@ run-spec =
     (tie.spec
     Inv-loop
     μ-loop
+    (λ c κs. search needs)
     (λ c. search needs)
     (λ c κs. search needs)
     (λ c. search needs)

@@ -16,17 +16,17 @@ up-to-16 : {row held : List ℕ} {xs : List Float} → Accepted row xs held → 
 up-to-16 a = omega (arith, a .of-length, a .is-row .row-good .length-to)
 
 slice-aggregate-code : tie.Need-slice-aggregate-code
-slice-aggregate-code c = sym (length-take-le _ _ (up-to-16 (c .before .before .before .before .pre)))
+slice-aggregate-code c = sym (length-take-le _ _ (up-to-16 (c .before .before .before .before .pre .0)))
 
 slice-aggregate-code-2 : tie.Need-slice-aggregate-code-2
-slice-aggregate-code-2 c = sym (length-take-le _ _ (up-to-16 (c .before .before .before .before .before .pre)))
+slice-aggregate-code-2 c = sym (length-take-le _ _ (up-to-16 (c .before .before .before .before .before .pre .0)))
 
 slice-aggregate-code-3 : tie.Need-slice-aggregate-code-3
-slice-aggregate-code-3 c = sym (length-take-le _ _ (up-to-16 (c .before .before .before .before .before .before .pre)))
+slice-aggregate-code-3 c = sym (length-take-le _ _ (up-to-16 (c .before .before .before .before .before .before .pre .0)))
 
 code-requires : tie.Need-code-requires
 code-requires c κs =
-    let a = c .before .before .before .before .before .before .pre in
+    let a = c .before .before .before .before .before .before .pre .0 in
     let long = up-to-16 a in
     (a .is-row, a .of-length, a .all-usable, length-take-le _ _ long, length-take-le _ _ long, length-take-le _ _ long)
 
@@ -34,7 +34,7 @@ returns : tie.Need-returns
 returns c =
     let a = c .before .before .before .before .before .before .before .before .before .before .before .before .before .before .args in
     let coded = c .before .before .before .before .before .before .before .code .ensures in
-    c .before .before .write .ensures ∙ ap₂ (recordOf (a .place) (a .number)) (coded .0) (coded .1)
+    c .before .before .write .ensures ∙ ap₂ (recordOf (a .named .book) (a .named .place) (a .named .row)) (coded .0) (coded .1)
 
 pub write-record-spec : {M : Type 1} → statement M
 write-record-spec =

@@ -17,8 +17,8 @@ its-bytes pg p = let eight : 9 * p + 1 + 8 - (9 * p + 1) ≡ 8 = omega arith in 
 returns : tie.Need-returns
 returns c =
     let a = c .before in
-    let lent = its-bytes (a .args .page .now) (a .args .place) in
-    (lent, ap length lent ∙ length-record (a .args .places) (a .args .page .now) (a .pre .size) (a .args .place) (a .pre .below))
+    let lent = its-bytes (a .args .page .now) (a .args .cell) in
+    (lent, ap length lent ∙ length-record (a .args .cells) (a .args .page .now) (a .pre .size) (a .args .cell) (a .pre .below))
 
 pub record-at-spec : {M : Type 1} → statement M
 record-at-spec =

@@ -11,10 +11,10 @@ use Rattle.layout.proofs.inner.set_cell.Statement.{statement}
 use Rattle.layout.proofs.inner.set_cell.Tie as tie
 
 abbrev Inv-loop : tie.InvT-loop
-Inv-loop page₀ places place state bytes from at₀ page at = (at ≤ 8) × (length page ≡ length page₀) × (page ≡ written page₀ from bytes at)
+Inv-loop page₀ cells cell state bytes from at₀ page at = (at ≤ 8) × (length page ≡ length page₀) × (page ≡ written page₀ from bytes at)
 
 abbrev μ-loop : tie.MeasureT-loop
-μ-loop page₀ places place state bytes from at₀ page at = 8 - at
+μ-loop page₀ cells cell state bytes from at₀ page at = 8 - at
 
 loop-holds : tie.Need-loop-holds Inv-loop μ-loop
 loop-holds c = (omega arith, refl, refl)
@@ -24,18 +24,18 @@ slice-write-page-2 : tie.Need-slice-write-page-2 Inv-loop μ-loop
 slice-write-page-2 c =
     let a = c .before .before .before in
     let i = c .before .before .loop in
-    omega (arith, i .inv .1, length-set (a .args .page .now) (9 * a .args .place) (a .args .state), a .pre .0 .size, a .pre .0 .below)
+    omega (arith, i .inv .1, length-set (a .args .page .now) (9 * a .args .cell) (a .args .state), a .pre .0 .size, a .pre .0 .below)
 
 loop-again : tie.Need-loop-again Inv-loop μ-loop
 loop-again c =
     let a = c .before .before .before in
     let i = c .before .before .loop in
-    let stated = set (a .args .page .now) (9 * a .args .place) (a .args .state) in
-    let from = 9 * a .args .place + 1 in
+    let stated = set (a .args .page .now) (9 * a .args .cell) (a .args .state) in
+    let from = 9 * a .args .cell + 1 in
     (omega arith, length-set (i .page) (from + i .at) (getD (a .args .bytes .now) (i .at) 0) ∙ i .inv .1, fills stated (a .args .bytes .now) from (i .at) 0 (omega (arith, a .pre .1)) refl refl (i .inv .2))
 
 same-length : tie.Need-same-length Inv-loop μ-loop
-same-length c = let a = c .before .before .args in c .before .loop .inv .1 ∙ length-set (a .page .now) (9 * a .place) (a .state)
+same-length c = let a = c .before .before .args in c .before .loop .inv .1 ∙ length-set (a .page .now) (9 * a .cell) (a .state)
 
 returns : tie.Need-returns Inv-loop μ-loop
 unfolding setCell
@@ -43,7 +43,7 @@ returns c =
     let a = c .before .before .args in
     let i = c .before .loop in
     let all : i .at ≡ 8 = omega (arith, i .inv .0) in
-    i .inv .2 ∙ ap (λ (n : ℕ). written (set (a .page .now) (9 * a .place) (a .state)) (9 * a .place + 1) (a .bytes .now) n) all
+    i .inv .2 ∙ ap (λ (n : ℕ). written (set (a .page .now) (9 * a .cell) (a .state)) (9 * a .cell + 1) (a .bytes .now) n) all
 
 pub set-cell-spec : {M : Type 1} → statement M
 set-cell-spec =

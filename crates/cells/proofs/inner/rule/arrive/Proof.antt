@@ -1,25 +1,26 @@
 -- `cells::inner::rule::arrive` takes a record into the cell of its place, unless refusal 12 is given for it.
 use mathlib.Core.Bool.{true, false}
 use mathlib.Core.Path.{_≡_, sym, _∙_}
-use borrow.Author.Needs.{needs}
 use Rattle.layout.proofs.Cells.{set-back}
-use Rattle.layout.specs.Layout.{cellAt}
-use Rattle.rules.specs.Taking.{badCell}
+use Rattle.cells.specs.Spots.{badThere}
+use borrow.Author.Needs.{needs}
 use Rattle.cells.proofs.inner.rule.arrive.Statement.{statement}
 use Rattle.cells.proofs.inner.rule.arrive.Tie as tie
+use Rattle.cells.proofs.inner.rule.bad_at.Reads as bad-at-reads
+use Rattle.cells.proofs.inner.rule.take_cell.Reads as take-cell-reads
 
 returns : tie.Need-returns
 returns c =
     let a = c .before .before .before .before .before in
     let pg = a .args .page .now in
-    let p = a .args .place in
-    let bad : badCell p (a .args .row) (cellAt pg p) ≡ true = sym (c .before .bad-at .ensures) ∙ c .if1 .taken in
-    (sym bad, rw bad (sym (set-back (a .args .places) pg (a .pre .0 .size) p (a .pre .0 .below))))
+    let spot = a .args .spot in
+    let bad : badThere pg spot ≡ true = sym (c .before .bad-at .ensures) ∙ c .if1 .taken in
+    (sym bad, rw bad (sym (set-back (spot .cells) pg (a .pre .0 .size) (spot .cell) (a .pre .0 .below))))
 
 returns-2 : tie.Need-returns-2
 returns-2 c =
     let a = c .before .before .before .before .before .before .before .before .before .args in
-    let fine : badCell (a .place) (a .row) (cellAt (a .page .now) (a .place)) ≡ false =
+    let fine : badThere (a .page .now) (a .spot) ≡ false =
     sym (c .before .before .before .before .before .bad-at .ensures) ∙ c .before .before .before .before .if1 .left in
     (sym fine, rw fine (c .before .before .take-cell .ensures))
 

@@ -26,32 +26,32 @@ returns : tie.Need-returns
 returns c =
     let a = c .before .before .before .before .before .before .before .before .before .args in
     let pg = a .page .now in
-    c .before .before .set-cell .ensures ∙ ap (setCell pg (a .place)) (sym (takes-empty (a .bytes .now) (cellAt pg (a .place)) (sym (c .before .before .before .before .before .state-at .ensures) ∙ c .before .before .before .before .if1 .taken)))
+    c .before .before .set-cell .ensures ∙ ap (setCell pg (a .cell)) (sym (takes-empty (a .bytes .now) (cellAt pg (a .cell)) (sym (c .before .before .before .before .before .state-at .ensures) ∙ c .before .before .before .before .if1 .taken)))
 
 returns-2 : tie.Need-returns-2
 returns-2 c =
     let a = c .before .before .before .before .before .before in
     let state = c .before .before .state-at .ensures in
     stays (a .args .bytes .now) (a .pre .0)
-    (sym (takes-else (a .args .bytes .now) (cellAt (a .args .page .now) (a .args .place)) (λ e. c .before .if1 .left (state ∙ e)) (λ e. c .if2 .taken (state ∙ e))))
+    (sym (takes-else (a .args .bytes .now) (cellAt (a .args .page .now) (a .args .cell)) (λ e. c .before .if1 .left (state ∙ e)) (λ e. c .if2 .taken (state ∙ e))))
 
 returns-3 : tie.Need-returns-3
 returns-3 c =
     let a = c .before .before .before .before .before .before .before .before .before .before in
     let x = a .args .bytes .now in
-    let held = recordAt (a .args .page .now) (a .args .place) in
+    let held = recordAt (a .args .page .now) (a .args .cell) in
     let alike : sameBytes held x ≡ true = sym (compared x (c .before .before .record-at .ensures .0)) ∙ sym (c .before .same .ensures) ∙ c .if3 .taken in
-    stays x (a .pre .0) (takes-held x (cellAt (a .args .page .now) (a .args .place)) (sym (c .before .before .before .before .before .before .state-at .ensures) ∙ c .before .before .before .before .if2 .left) ∙ rw alike refl)
+    stays x (a .pre .0) (takes-held x (cellAt (a .args .page .now) (a .args .cell)) (sym (c .before .before .before .before .before .before .state-at .ensures) ∙ c .before .before .before .before .if2 .left) ∙ rw alike refl)
 
 returns-4 : tie.Need-returns-4
 returns-4 c =
     let a = c .before .before .before .before .before .before .before .before .before .before .before .before .before .before .before .args in
     let x = a .bytes .now in
     let pg = a .page .now in
-    let held = recordAt pg (a .place) in
+    let held = recordAt pg (a .cell) in
     let differ : sameBytes held x ≡ false = sym (compared x (c .before .before .before .before .before .before .before .record-at .ensures .0)) ∙ sym (c .before .before .before .before .before .before .same .ensures) ∙ c .before .before .before .before .before .if3 .left in
     c .before .before .set-cell2 .ensures
-    ∙ ap (setCell pg (a .place)) (sym (takes-held x (cellAt pg (a .place)) (sym (c .before .before .before .before .before .before .before .before .before .before .before .state-at .ensures) ∙ c .before .before .before .before .before .before .before .before .before .if2 .left) ∙ rw differ refl))
+    ∙ ap (setCell pg (a .cell)) (sym (takes-held x (cellAt pg (a .cell)) (sym (c .before .before .before .before .before .before .before .before .before .before .before .state-at .ensures) ∙ c .before .before .before .before .before .before .before .before .before .if2 .left) ∙ rw differ refl))
 
 pub take-cell-spec : {M : Type 1} → statement M
 take-cell-spec =

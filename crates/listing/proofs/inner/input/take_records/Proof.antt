@@ -45,7 +45,7 @@ loop-again c =
     let few = refused-few (c .before .before .before .before .before .before .before .before .before .before .before .before .before .before .before .before .before .before .before .before .before .before .before .args .table .now) (i .page) (i .block) (took .ensures .0) (le-of-eq (i .inv .1)) in (
       omega (arith, ltb-true (i .turns) 281474976710656 (c .before .before .before .before .before .before .before .before .before .if2 .taken)),
       filled .kept .1 .1 .0 ∙ i .inv .1,
-      took .kept .1 .0 ∙ i .inv .2,
+      took .kept .1 .1 .0 ∙ i .inv .2,
       omega (arith, i .inv .3, few),
       filled .ensures .0,
       filled .ensures .1,
@@ -68,7 +68,7 @@ returns-2 c =
     took-more (i .inv .6) (take (i .n) (i .block)) (took .1) (took .0)
 
 same-length : tie.Need-same-length Inv-loop μ-loop
-same-length c = c .before .before .before .collect2 .kept .1 .0 ∙ c .before .before .before .before .before .before .before .loop .inv .2
+same-length c = c .before .before .before .collect2 .kept .1 .1 .0 ∙ c .before .before .before .before .before .before .before .loop .inv .2
 
 pub take-records-spec : {M : Type 1} → statement M
 take-records-spec =

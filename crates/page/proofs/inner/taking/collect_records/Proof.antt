@@ -8,7 +8,7 @@ use Rattle.page.proofs.inner.taking.collect_records.Tie as tie
 row-starts-requires : tie.Need-row-starts-requires
 row-starts-requires c κs =
     let a = c .before .before .before .before in
-    (page-good (a .args .table .now) (a .args .page .now) (a .pre .passes), refl)
+    (page-good (a .args .table .now) (a .args .books .0) (a .args .page .now) (a .pre .passes), refl)
 
 pub collect-records-spec : {M : Type 1} → statement M
 collect-records-spec =

@@ -10,12 +10,12 @@ use Rattle.page.proofs.inner.taking.place_named.Tie as tie
 returns : tie.Need-returns
 returns c = rw (sym (c .before .wrong-record .ensures) ∙ c .if1 .taken) refl
 
-place-in-requires : tie.Need-place-in-requires
-place-in-requires c κs =
+named-in-requires : tie.Need-named-in-requires
+named-in-requires c κs =
     right-length (length (c .before .before .before .args .bytes .now)) recordLength (sym (c .before .wrong-record .ensures) ∙ c .if1 .left)
 
 returns-2 : tie.Need-returns-2
-returns-2 c = rw (sym (c .before .before .wrong-record .ensures) ∙ c .before .if1 .left) (c .place-in .ensures .0)
+returns-2 c = rw (sym (c .before .before .wrong-record .ensures) ∙ c .before .if1 .left) (c .named-in .ensures .is-place)
 
 pub place-named-spec : {M : Type 1} → statement M
-place-named-spec = tie.close (tie.spec (λ c κs. search needs) returns place-in-requires returns-2)
+place-named-spec = tie.close (tie.spec (λ c κs. search needs) returns named-in-requires returns-2)

@@ -21,7 +21,7 @@ returns c =
     let x = a .args .bytes .now in
     let did = c .before .before .before .before .take-record .ensures in
     let said = ap takeMeaning (sym (c .enum-told .given .1)) ∙ did .0 in
-    (counts-0 t pg (a .pre .ready .passes) x said, leaves-all t pg (a .pre .ready .passes) x (did .1), omega arith)
+    (counts-0 t (a .args .books .0) pg (a .pre .ready .passes) x said, leaves-all t (a .args .books .0) pg (a .pre .ready .passes) x (did .1), omega arith)
 
 returns-2 : tie.Need-returns-2
 returns-2 c =
@@ -32,7 +32,7 @@ returns-2 c =
     let did = c .before .before .before .before .take-record .ensures in
     let told = c .enum-told2 .given in
     let said = ap takeMeaning (sym (told .1)) ∙ did .0 in
-    (counts-1 t pg (a .pre .ready .passes) x (told .0 .0) said, leaves-all t pg (a .pre .ready .passes) x (did .1), omega arith)
+    (counts-1 t (a .args .books .0) pg (a .pre .ready .passes) x (told .0 .0) said, leaves-all t (a .args .books .0) pg (a .pre .ready .passes) x (did .1), omega arith)
 
 pub refusals-of-spec : {M : Type 1} → statement M
 refusals-of-spec =

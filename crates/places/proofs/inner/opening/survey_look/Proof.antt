@@ -1,12 +1,14 @@
--- `places::inner::opening::survey_look` asks for the mode, surveys the table and the place, and then looks at the
--- length of the page.
+-- `places::inner::opening::survey_look` asks for the mode, surveys the books, the table and the place, and then looks
+-- at the length of the page.
 use mathlib.Core.List.{[], _∷_, _++_}
 use mathlib.Core.Path.{sym, _∙_}
 use borrow.Author.Needs.{needs}
-use Rattle.tables.proofs.PlaceChecks.{place-numbered, place-passes}
-use Rattle.tables.specs.Table.{placeChecks}
+use Rattle.pairing.proofs.Surveys.{first-fails, first-passes}
+use Rattle.tables.proofs.PlaceChecks.{book-passes, place-numbered, place-passes}
+use Rattle.tables.specs.BookNumbers.{placeChecks}
+use Rattle.rules.specs.Modes.{modeCheck}
 use Rattle.rules.specs.Taking.{pageCheck}
-use Rattle.places.proofs.Opening.{page-behind, no-mode, in-mode, told-to}
+use Rattle.places.proofs.Opening.{page-behind, told-to}
 use Rattle.places.proofs.inner.opening.survey_look.Statement.{statement}
 use Rattle.places.proofs.inner.opening.survey_look.Tie as tie
 
@@ -14,20 +16,24 @@ returns : tie.Need-returns
 returns c =
     let a = c .before .before .before .before .args in
     let t = a .table .now in
-    no-mode (placeChecks t (a .place) ++ (pageCheck t (a .page .now) ∷ [])) t (a .place) (a .mode .0) (sym (c .before .no-such-mode .ensures) ∙ c .if1 .taken)
+    let books = a .books .0 in
+    first-fails (modeCheck (a .mode .0)) (placeChecks t books (a .book .0) (a .place) ++ (pageCheck t books (a .page .now) ∷ [])) t (a .place) (sym (c .before .no-such-mode .ensures) ∙ c .if1 .taken)
 
 with-page-requires : tie.Need-with-page-requires
 with-page-requires c κs =
     let a = c .before .before .before .before .before .args in
     let t = a .table .now in
-    told-to (placeChecks t (a .place)) t (a .place) (c .survey-place .result) (place-numbered t (a .place)) (λ h. place-passes t (a .place) h .0) (c .survey-place .ensures)
+    let books = a .books .0 in
+    told-to (placeChecks t books (a .book .0) (a .place)) t books (a .place) (c .survey-place .result) (place-numbered t books (a .book .0) (a .place)) (λ h. book-passes t books (a .book .0) (place-passes t books (a .book .0) (a .place) h .0) .0) (c .survey-place .ensures)
 
 returns-2 : tie.Need-returns-2
 returns-2 c =
     let a = c .before .before .before .before .before .before .args in
     let t = a .table .now in
-    let behind = page-behind (placeChecks t (a .place)) t (a .place) (a .page .now) (place-numbered t (a .place)) (c .before .survey-place .ensures) (c .with-page .ensures) in
-    in-mode (placeChecks t (a .place) ++ (pageCheck t (a .page .now) ∷ [])) t (a .place) (a .mode .0) (sym (c .before .before .before .no-such-mode .ensures) ∙ c .before .before .if1 .left) behind
+    let books = a .books .0 in
+    let behind = page-behind (placeChecks t books (a .book .0) (a .place)) t books (a .place) (a .page .now) (place-numbered t books (a .book .0) (a .place)) (c .before .survey-place .ensures) (c .with-page .ensures) in
+    first-passes (modeCheck (a .mode .0)) (placeChecks t books (a .book .0) (a .place) ++ (pageCheck t books (a .page .now) ∷ [])) t (a .place)
+    (sym (c .before .before .before .no-such-mode .ensures) ∙ c .before .before .if1 .left) behind
 
 pub survey-look-spec : {M : Type 1} → statement M
 survey-look-spec =

@@ -6,7 +6,7 @@ use lib.ListN.{replicate}
 use lib.Seq.{length-take-le}
 use borrow.Author.Needs.{needs}
 use Rattle.cells.proofs.Shown.{seen-shows}
-use Rattle.layout.specs.Layout.{cellAt}
+use Rattle.cells.specs.Spots.{cellThere}
 use Rattle.report.proofs.inner.block.write_line.Statement.{statement}
 use Rattle.report.proofs.inner.block.write_line.Tie as tie
 
@@ -23,7 +23,7 @@ write-seen-requires c κs =
     let length = c .before .before .before .length in
     let seen = c .before .before .judge-at .ensures in (
       is-row,
-      seen-shows (a .args .mode .0) row (cellAt (a .args .page .now) (a .args .place)) is-row seen,
+      seen-shows (a .args .mode .0) row (cellThere (a .args .page .now) (a .args .spot)) is-row seen,
       seen .handed,
       length-take-le (length .result .0) (replicate 16 (pos 0)) (omega (arith, length .ensures, is-row .row-good .length-to)) ∙ length .ensures,
       a .pre .2,

@@ -4,6 +4,7 @@ use mathlib.Core.Path.{sym, ap, _∙_}
 use borrow.Author.Needs.{needs}
 use lib.Ieee.{Float}
 use lib.Seq.{length-take-le}
+use Rattle.tables.specs.BookNumbers.{oneBook, onlyBook}
 use Rattle.runs.specs.Sending.{sendSays, sendLeaves}
 use Rattle.sender.proofs.inner.run.send_bytes.Statement.{statement}
 use Rattle.sender.proofs.inner.run.send_bytes.Tie as tie
@@ -16,8 +17,8 @@ returns c =
     let a = c .before .before .before .before .before .before .before .before .before .before .before .args in
     let is-run = c .before .before .before .before .before .before .run-of .ensures .1 in
     let did = c .before .before .send .ensures in (
-      did .0 ∙ ap (λ (run : List Float). sendSays (a .table .now) run (a .records .now)) is-run,
-      did .1 ∙ ap (λ (run : List Float). sendLeaves (a .table .now) run (a .records .now)) is-run,
+      did .0 ∙ ap (λ (run : List Float). sendSays (a .table .now) oneBook onlyBook run (a .records .now)) is-run,
+      did .1 ∙ ap (λ (run : List Float). sendLeaves (a .table .now) oneBook onlyBook run (a .records .now)) is-run,
     )
 
 pub send-bytes-spec : {M : Type 1} → statement M

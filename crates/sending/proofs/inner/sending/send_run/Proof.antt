@@ -1,5 +1,5 @@
 -- `sending::inner::sending::send_run` says and leaves what the call send is to say and leave behind the checks of the
--- table: refusals 4, 4 and 11, and the buffer as it was; or the records of all places.
+-- books, the table and the book: refusals 4, 4 and 11, and the buffer as it was; or the records of all places.
 use Prim.Native.Nat.{_*_}
 use mathlib.Core.List.{[]}
 use mathlib.Core.Path.{refl, sym, ap, _∙_}
@@ -25,14 +25,14 @@ returns c =
 mul-if2 : tie.Need-mul-if2
 mul-if2 c =
     let a = c .before .before .before .before .before in
-    omega (arith, a .pre .is-places, places-to (a .args .table .now) (a .pre .good))
+    omega (arith, a .pre .0 .is-places, places-to (a .args .table .now) (a .pre .0 .good))
 
 returns-2 : tie.Need-returns-2
 returns-2 c =
     let a = c .before .before .before .before .before .before in
     let t = a .args .table .now in
     let long = c .before .if1 .left ∙ c .before .before .coordinates .ensures in
-    rw (eq-eqb (length (a .args .run .now)) (coordinatesIn t) long, ne-eqb (length (a .args .out .now)) (recordsLength t) (λ same. c .if2 .taken (same ∙ ap (λ n. recordLength * n) (sym (a .pre .is-places))))) (refl, refl)
+    rw (eq-eqb (length (a .args .run .now)) (coordinatesIn t) long, ne-eqb (length (a .args .out .now)) (recordsLength t) (λ same. c .if2 .taken (same ∙ ap (λ n. recordLength * n) (sym (a .pre .0 .is-places))))) (refl, refl)
 
 write-records-requires : tie.Need-write-records-requires
 write-records-requires c κs =
@@ -42,9 +42,10 @@ write-records-requires c κs =
     let said = ap verdictMeaning (sym (c .before .enum-told .given .1)) ∙ c .before .before .before .check-run .ensures in
     let long = c .before .before .before .before .before .if1 .left ∙ c .before .before .before .before .before .before .coordinates .ensures in
     record {
-      measured = record { opened = a .pre; run-long = long };
+      measured = record { opened = a .pre .0; run-long = long };
+      book-to = a .pre .1;
       all-usable = run-usable t run long (says-run t run said);
-      has-room = c .before .before .before .before .if2 .left ∙ ap (λ n. recordLength * n) (a .pre .is-places);
+      has-room = c .before .before .before .before .if2 .left ∙ ap (λ n. recordLength * n) (a .pre .0 .is-places);
     }
 
 returns-3 : tie.Need-returns-3
@@ -54,9 +55,9 @@ returns-3 c =
     let run = a .args .run .now in
     let said = ap verdictMeaning (sym (c .before .before .before .before .enum-told .given .1)) ∙ c .before .before .before .before .before .before .check-run .ensures in
     let long = c .before .before .before .before .before .before .before .before .if1 .left ∙ c .before .before .before .before .before .before .before .before .before .coordinates .ensures in
-    let room = c .before .before .before .before .before .before .before .if2 .left ∙ ap (λ n. recordLength * n) (a .pre .is-places) in
+    let room = c .before .before .before .before .before .before .before .if2 .left ∙ ap (λ n. recordLength * n) (a .pre .0 .is-places) in
     rw (eq-eqb (length run) (coordinatesIn t) long, eq-eqb (length (a .args .out .now)) (recordsLength t) room)
-    (said, c .before .before .write-records .ensures ∙ sym (passes-leaves (recordsOf t run) (a .args .out .now) (runChecks t run) (says-run t run said)))
+    (said, c .before .before .write-records .ensures ∙ sym (passes-leaves (recordsOf t (a .args .book .0) run) (a .args .out .now) (runChecks t run) (says-run t run said)))
 
 returns-4 : tie.Need-returns-4
 returns-4 c =
@@ -66,9 +67,9 @@ returns-4 c =
     let told = c .before .refusal .given in
     let said = ap verdictMeaning (sym (told .1)) ∙ c .before .before .before .check-run .ensures in
     let long = c .before .before .before .before .before .if1 .left ∙ c .before .before .before .before .before .before .coordinates .ensures in
-    let room = c .before .before .before .before .if2 .left ∙ ap (λ n. recordLength * n) (a .pre .is-places) in
+    let room = c .before .before .before .before .if2 .left ∙ ap (λ n. recordLength * n) (a .pre .0 .is-places) in
     rw (eq-eqb (length run) (coordinatesIn t) long, eq-eqb (length (a .args .out .now)) (recordsLength t) room)
-    (said, refusal-leaves (recordsOf t run) (a .args .out .now) [] (runChecks t run) (told .0 .0) said)
+    (said, refusal-leaves (recordsOf t (a .args .book .0) run) (a .args .out .now) [] (runChecks t run) (told .0 .0) said)
 
 pub send-run-spec : {M : Type 1} → statement M
 send-run-spec =

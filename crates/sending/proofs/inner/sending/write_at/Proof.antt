@@ -4,22 +4,28 @@ use mathlib.Core.Path.{_≡_}
 use native.Mathlib.Omega.{arith}
 use Rattle.buffers.proofs.Writing.{wrote-part}
 use Rattle.records.proofs.Fields.{record-length}
-use Rattle.records.specs.Record.{recordLength, recordOf}
-use Rattle.coding.specs.Coded.{radiusNumberFor, codewordFor}
+use Rattle.records.specs.Record.{recordLength}
+use Rattle.coding.specs.Coded.{radiusNumberFor, codewordFor, recordNamed}
 use borrow.Author.Needs.{needs}
 use Rattle.sending.proofs.inner.sending.write_at.Statement.{statement}
 use Rattle.sending.proofs.inner.sending.write_at.Tie as tie
 
+write-record-requires : tie.Need-write-record-requires
+write-record-requires c κs =
+    let p = c .before .before .before .before .before .pre in
+    (record { is-row = p .is-row; of-length = p .of-length; all-usable = p .usable; has-room = search needs }, p .in-field)
+
 returns : tie.Need-returns
 returns c =
-    let a = c .before .before .before .before .before .before .before in
-    let at = recordLength * a .args .place in
-    let number = radiusNumberFor (a .args .row .now) (a .args .coefficients .now) in
-    let codeword = codewordFor (a .args .row .now) (a .args .coefficients .now) in
-    let made = recordOf (a .args .place) (a .args .number) number codeword in
+    let a = c .before .before .before .before .before .before .before .before in
+    let named = a .args .named in
+    let row = a .args .row .now in
+    let xs = a .args .coefficients .now in
+    let at = recordLength * named .place in
     let size : at + recordLength - at ≡ recordLength = omega arith in
     rw (size, c .before .before .write-record .ensures)
-    (wrote-part (a .args .out .now) made at recordLength (record-length (a .args .place) (a .args .number) number codeword) (a .pre .room))
+    (wrote-part (a .args .out .now) (recordNamed named row xs) at recordLength
+    (record-length (named .book) (named .place) (named .row) (radiusNumberFor row xs) (codewordFor row xs)) (a .pre .room))
 
 pub write-at-spec : {M : Type 1} → statement M
 write-at-spec =
@@ -30,6 +36,6 @@ write-at-spec =
     (λ c. search needs)
     (λ c. search needs)
     (λ c. search needs)
-    (λ c κs. search needs)
+    write-record-requires
     (λ c. search needs)
     returns)

@@ -15,17 +15,17 @@ use Rattle.sending.proofs.inner.sending.write_records.Statement.{statem
 use Rattle.sending.proofs.inner.sending.write_records.Tie as tie
 
 abbrev Inv-loop : tie.InvT-loop
-Inv-loop table places first run out₀ walk₀ from₀ place₀ out walk from place =
-    Reached table (walk .row) (walk .end) from place × RecordsTo table run place out₀ out
+Inv-loop table places first book run out₀ walk₀ from₀ place₀ out walk from place =
+    Reached table (walk .row) (walk .end) from place × RecordsTo table (book .0) run place out₀ out
 
 abbrev μ-loop : tie.MeasureT-loop
-μ-loop table places first run out₀ walk₀ from₀ place₀ out walk from place = places - place
+μ-loop table places first book run out₀ walk₀ from₀ place₀ out walk from place = places - place
 
 walk-from-requires : tie.Need-walk-from-requires Inv-loop μ-loop
 walk-from-requires c κs = place-0 (c .before .before .before .pre .measured .opened)
 
 loop-holds : tie.Need-loop-holds Inv-loop μ-loop
-loop-holds c = let a = c .before .before .before .before .args in (begins (c .walk-from .ensures), begins-records (a .table .now) (a .run .now) (a .out .now))
+loop-holds c = let a = c .before .before .before .before .args in (begins (c .walk-from .ensures), begins-records (a .table .now) (a .book .0) (a .run .now) (a .out .now))
 
 walked-requires : tie.Need-walked-requires Inv-loop μ-loop
 walked-requires c κs = (c .before .loop .inv .0 .on, inside (c .before .before .before .before .before .before .pre .measured .opened) (c .before .loop .place) (search needs))
@@ -55,7 +55,7 @@ write-at-requires c κs =
       is-row = rw is-row (row-bytes at-row);
       of-length = ap length vector ∙ vector-length t run (a .pre .measured .run-long) (i .place) h ∙ omega (arith, its-length (i .inv .0) h at-row is-row l);
       usable = rw vector (a .pre .all-usable (i .place) h);
-      place-to = omega (arith, place-fits (a .pre .measured .opened) (i .place) (search needs));
+      in-field = record { book-to = a .pre .book-to; place-to = omega (arith, place-fits (a .pre .measured .opened) (i .place) (search needs)) };
       room = omega (arith, wrote-length (i .inv .1), a .pre .has-room);
     }
 
@@ -80,7 +80,7 @@ loop-again c =
     let l = c .before .before .before .before .before .length .ensures in
     let vector = its-vector (i .inv .0) h at-row is-row l (a .args .run .now) (a .pre .measured .run-long) (c .before .before .before .before .vector-at .ensures) in (
       goes-on (i .inv .0) h at-row is-row l,
-      record-more (a .args .table .now) (a .args .run .now) (i .place) (its-row at-row h) is-row vector (i .inv .1) (c .before .before .write-at .ensures),
+      record-more (a .args .table .now) (a .args .book .0) (a .args .run .now) (i .place) (its-row at-row h) is-row vector (i .inv .1) (c .before .before .write-at .ensures),
     )
 
 returns : tie.Need-returns Inv-loop μ-loop
@@ -88,7 +88,7 @@ returns c =
     let a = c .before .before .before .before .before .before in
     let i = c .before .loop in
     let all : i .place ≡ placesIn (a .args .table .now) = omega (arith, a .pre .measured .opened .is-places, i .inv .0 .to) in
-    all-records (a .args .table .now) (a .args .run .now) all (a .pre .has-room) (i .inv .1)
+    all-records (a .args .table .now) (a .args .book .0) (a .args .run .now) all (a .pre .has-room) (i .inv .1)
 
 pub write-records-spec : {M : Type 1} → statement M
 write-records-spec =
