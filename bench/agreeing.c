@@ -1,6 +1,6 @@
 /* Ours and plain C are asked the same. A difference, in the answer or in what a call is lent, is an error; else the
-   answer is returned, of point, quantize, take, read and send the refusal number, of collect how many takes are
-   refused. */
+   answer is returned, of point, quantize, take, read, send and a conversion the refusal number, of collect how many
+   takes are refused. */
 
 #include "bench.h"
 
@@ -8,7 +8,7 @@
 #include <string.h>
 
 enum { ROOM = MOST_LENGTH + 1, GARBAGE = 0x5a }; /* the room for an output, or a record, that is too long */
-enum { LEAST_REFUSED = 300 };                    /* takes with each refusal, empty shapes, modes, and books */
+enum { LEAST = 300 }; /* with each refusal of take and of a conversion, with empty shapes, modes, books, and layouts */
 enum { ITEM_REFUSAL, ITEM_ANSWER, ITEM_REASON, ITEM_DISTANCE, ITEM_NAMED = 1 };
 
 /* How often each call was compared, and how many of these comparisons were of refusals. */
@@ -19,13 +19,15 @@ static struct {
     uint64_t takes;
     uint64_t runs;
     uint64_t places;
+    uint64_t conversions;
     uint64_t pages;
     uint64_t refused;
-    uint64_t takes_refused[MOST_REFUSAL + 1]; /* with each number */
-    uint64_t empty_points;                    /* refused with 15 */
-    uint64_t empty_places;                    /* with the reason 15 */
-    uint64_t overflowing_places;              /* with the reason 6 */
-    uint64_t no_modes;                        /* refused with 16 */
+    uint64_t takes_refused[MOST_REFUSAL + 1];       /* with each number */
+    uint64_t conversions_refused[MOST_REFUSAL + 1]; /* the same */
+    uint64_t empty_points;                          /* refused with 15 */
+    uint64_t empty_places;                          /* with the reason 15 */
+    uint64_t overflowing_places;                    /* with the reason 6 */
+    uint64_t no_modes;                              /* refused with 16 */
 } compared;
 
 /* And of the calls that are given a book, or a record that has one: how many had several books and were not refused,
@@ -36,6 +38,10 @@ static struct {
     uint64_t outside;
     uint64_t no_book;
 } shared[CALLS];
+
+/* And of the calls that are lent a page: how many had it in each layout and were not refused, or not altogether. */
+enum page_call { TAKING, COLLECTING, READING, CONVERTING, PAGE_CALLS };
+static uint64_t kept[PAGE_CALLS][LAYOUTS];
 
 static void note(uint64_t *calls, int is_refused)
 {
@@ -50,28 +56,50 @@ static void note_books(enum call call, uint64_t books, uint64_t book, uint64_t r
     shared[call].no_book += refusal == 8 && book >= books;
 }
 
+/* Any layout but the first is states first. */
+static void note_layout(enum page_call call, uint64_t layout, int is_refused)
+{
+    kept[call][layout == CELL_BY_CELL ? CELL_BY_CELL : STATES_FIRST] += !is_refused;
+}
+
 static void require_books(void)
 {
     for (enum call call = 0; call < CALLS; call++)
-        if (shared[call].several < LEAST_REFUSED || shared[call].outside < LEAST_REFUSED ||
-            shared[call].no_book < LEAST_REFUSED)
+        if (shared[call].several < LEAST || shared[call].outside < LEAST || shared[call].no_book < LEAST)
             fail("quantize, take, read or send", "books that are hardly compared");
 }
 
-/* Every refusal of take must be among them, 15 of point and of read, 6 and 16 of read, and all that books bring. */
+static void require_layouts(void)
+{
+    for (enum page_call call = 0; call < PAGE_CALLS; call++)
+        if (kept[call][CELL_BY_CELL] < LEAST || kept[call][STATES_FIRST] < LEAST)
+            fail("take, collect, read or a conversion", "a layout that is hardly compared");
+}
+
+/* Each of so many refusals, by how often there was each number. */
+static void require_refusals(const char *call, const uint64_t *refused, const uint64_t *refusals, uint64_t number)
+{
+    for (uint64_t i = 0; i < number; i++)
+        if (refused[refusals[i]] < LEAST)
+            fail(call, "a refusal that is hardly compared");
+}
+
+/* Every refusal of take and of a conversion must be among them, 15 of point and of read, 6 and 16 of read, all that
+   books bring, and both layouts. */
 void print_compared(void)
 {
-    const uint64_t refusals[] = {17, 7, 4, 8, 9, 12};
-    for (uint64_t i = 0; i < ENTRIES(refusals); i++)
-        if (compared.takes_refused[refusals[i]] < LEAST_REFUSED)
-            fail("take", "a refusal that is hardly compared");
+    const uint64_t of_take[] = {17, 7, 4, 8, 9, 12}, of_conversion[] = {17, 7, 4};
+    require_refusals("take", compared.takes_refused, of_take, ENTRIES(of_take));
+    require_refusals("conversion", compared.conversions_refused, of_conversion, ENTRIES(of_conversion));
     require_books();
-    if (compared.empty_points < LEAST_REFUSED || compared.empty_places < LEAST_REFUSED)
+    require_layouts();
+    if (compared.empty_points < LEAST || compared.empty_places < LEAST)
         fail("point or read", "empty shapes that are hardly compared");
-    if (compared.overflowing_places < LEAST_REFUSED || compared.no_modes < LEAST_REFUSED)
+    if (compared.overflowing_places < LEAST || compared.no_modes < LEAST)
         fail("read", "modes that are hardly compared");
     printf("%lu indices, %lu points, %lu vectors, ", compared.indices, compared.points, compared.vectors);
-    printf("%lu takes, %lu runs, %lu places, %lu sent pages, ", compared.takes, compared.runs, compared.places, compared.pages);
+    printf("%lu takes, %lu runs, %lu places, ", compared.takes, compared.runs, compared.places);
+    printf("%lu conversions, %lu sent pages, ", compared.conversions, compared.pages);
     printf("%lu of all these refused, or with a refused take\n", compared.refused);
 }
 
@@ -127,13 +155,14 @@ uint64_t agree_on_take(struct sharing with, uint8_t *page, uint8_t *page_of_plai
                        const struct record *in)
 {
     const struct table *table = with.table;
-    const uint64_t ours =
-        probe_take(table->bytes, table->size, with.books, page, size, in->bytes, in->length, ITEM_REFUSAL);
-    const uint32_t plain =
-        plain_take(table->bytes, table->size, with.books, page_of_plain, size, in->bytes, in->length);
+    const uint64_t ours = probe_take(table->bytes, table->size, with.books, with.layout, page, size, in->bytes,
+                                     in->length, ITEM_REFUSAL);
+    const uint32_t plain = plain_take(table->bytes, table->size, with.books, with.layout, page_of_plain, size,
+                                      in->bytes, in->length);
     hold("take", ours, plain, memcmp(page, page_of_plain, size) == 0);
     note(&compared.takes, ours != 0);
     note_books(TAKE, with.books, book_in(field_in(in->bytes)), ours);
+    note_layout(TAKING, with.layout, ours != 0);
     compared.takes_refused[ours]++;
     return ours;
 }
@@ -143,10 +172,12 @@ uint64_t agree_on_collect(struct sharing with, uint8_t *page, uint8_t *page_of_p
                           uint64_t length)
 {
     const struct table *table = with.table;
-    const uint64_t ours = probe_collect(table->bytes, table->size, with.books, page, size, run, length);
-    const uint64_t plain = plain_collect(table->bytes, table->size, with.books, page_of_plain, size, run, length);
+    const uint64_t ours = probe_collect(table->bytes, table->size, with.books, with.layout, page, size, run, length);
+    const uint64_t plain =
+        plain_collect(table->bytes, table->size, with.books, with.layout, page_of_plain, size, run, length);
     hold("collect", ours, plain, memcmp(page, page_of_plain, size) == 0);
     note(&compared.runs, ours != 0);
+    note_layout(COLLECTING, with.layout, ours * RECORD_SIZE >= length);
     return ours;
 }
 
@@ -159,11 +190,11 @@ uint64_t agree_on_read(uint64_t mode, struct sharing with, const uint8_t *page, 
     uint64_t ours[ITEM_DISTANCE + 1];
     __builtin_memset(one, GARBAGE, sizeof one);
     __builtin_memset(other, GARBAGE, sizeof other);
-    const struct plain_reading plain =
-        plain_read(mode, table->bytes, table->size, with.books, with.book, page, size, place, other, out_length);
+    const struct plain_reading plain = plain_read(mode, table->bytes, table->size, with.books, with.book, with.layout,
+                                                  page, size, place, other, out_length);
     for (uint64_t item = ITEM_REFUSAL; item <= ITEM_DISTANCE; item++)
-        ours[item] = probe_read(mode, table->bytes, table->size, with.books, with.book, page, size, place, one,
-                                out_length, item);
+        ours[item] = probe_read(mode, table->bytes, table->size, with.books, with.book, with.layout, page, size, place,
+                                one, out_length, item);
     hold("read", ours[ITEM_REFUSAL], plain.refusal, memcmp(one, other, sizeof one) == 0);
     if (plain.refusal == 0) {
         hold("answer of read", ours[ITEM_ANSWER], plain.answer, 1);
@@ -172,10 +203,30 @@ uint64_t agree_on_read(uint64_t mode, struct sharing with, const uint8_t *page, 
     }
     note(&compared.places, plain.refusal != 0);
     note_books(READ, with.books, with.book, plain.refusal);
+    note_layout(READING, with.layout, plain.refusal != 0);
     compared.no_modes += plain.refusal == 16;
     compared.empty_places += plain.refusal == 0 && plain.reason == 15;
     compared.overflowing_places += plain.refusal == 0 && plain.reason == 6;
     return plain.refusal;
+}
+
+/* A page into the layout that it does not have. */
+uint64_t agree_on_conversion(struct sharing with, const uint8_t *page, uint64_t size, uint64_t other_size)
+{
+    static uint8_t one[LENT_PAGE + SPARE], other[LENT_PAGE + SPARE];
+    const struct table *table = with.table;
+    const int is_first = with.layout == CELL_BY_CELL;
+    __builtin_memset(one, GARBAGE, other_size + SPARE);
+    __builtin_memset(other, GARBAGE, other_size + SPARE);
+    const uint64_t ours = (is_first ? probe_to_states_first : probe_to_cell_by_cell)(
+        table->bytes, table->size, with.books, page, size, one, other_size, ITEM_REFUSAL);
+    const uint32_t plain = (is_first ? plain_to_states_first : plain_to_cell_by_cell)(
+        table->bytes, table->size, with.books, page, size, other, other_size);
+    hold("conversion", ours, plain, memcmp(one, other, other_size + SPARE) == 0);
+    note(&compared.conversions, ours != 0);
+    note_layout(CONVERTING, with.layout, ours != 0);
+    compared.conversions_refused[ours]++;
+    return ours;
 }
 
 /* Of refusal 11 the place and the coordinate are compared too. */

@@ -12,7 +12,8 @@
 enum {
     INPUTS = 4096, /* of each workload, compared and timed: too many for the processor to know the next by heart */
     COUNTED = 64,  /* those of them that are run step by step, but for runs and whole pages */
-    NAME = 80      /* the room for the name of a line */
+    NAME = 80,     /* the room for the name of a line */
+    LENT_PAGE = CELL_SIZE * (MOST_PLACES * (MOST_BOOKS + 1) + 1) /* that for a page of a wrong length, too */
 };
 
 /* A call, whatever its type; what runs it knows the type. */
@@ -55,20 +56,23 @@ struct figures {
 };
 #define UNCOUNTED (-1.0)
 
-/* What the calls are measured with: a table, how many places it has, and how many books share it. */
+/* What the calls are measured with: a table, how many places it has, how many books share it, and the layout of the
+   page. */
 struct setting {
     const char *name;
     struct table table;
     uint64_t places;
     uint64_t books;
+    uint64_t layout;
 };
 
 /* What the calls that are compared are given of a table: its books, and one of them, which take and collect are not
-   asked for. Both may be any numbers. */
+   asked for; and the layout of the page, where there is one. All three may be any numbers. */
 struct sharing {
     const struct table *table;
     uint64_t books;
     uint64_t book;
+    uint64_t layout;
 };
 
 /* tracing.c: how many instructions a process takes, counted one by one; UNCOUNTED where that is not possible */
@@ -100,6 +104,7 @@ uint64_t agree_on_collect(struct sharing with, uint8_t *page, uint8_t *page_of_p
                           uint64_t length);
 uint64_t agree_on_read(uint64_t mode, struct sharing with, const uint8_t *page, uint64_t size, uint64_t place,
                        uint64_t out_length);
+uint64_t agree_on_conversion(struct sharing with, const uint8_t *page, uint64_t size, uint64_t other_size);
 uint64_t agree_on_send(struct sharing with, const float *run, uint64_t run_length, uint64_t buffer_length);
 void print_compared(void);
 
@@ -118,18 +123,22 @@ uint64_t empty_point_item(uint64_t selector, uint64_t length, uint64_t radius, u
 uint32_t empty_quantize(const uint8_t *table, uint64_t table_length, uint64_t books, uint64_t book, uint64_t place,
                         const float *coefficients, uint64_t coefficients_length, uint8_t *record,
                         uint64_t record_length);
-uint32_t empty_take(const uint8_t *table, uint64_t table_length, uint64_t books, uint8_t *page, uint64_t page_length,
-                    const uint8_t *record, uint64_t record_length);
-uint64_t empty_take_item(const uint8_t *table, uint64_t table_length, uint64_t books, uint8_t *page,
+uint32_t empty_take(const uint8_t *table, uint64_t table_length, uint64_t books, uint64_t layout, uint8_t *page,
+                    uint64_t page_length, const uint8_t *record, uint64_t record_length);
+uint64_t empty_take_item(const uint8_t *table, uint64_t table_length, uint64_t books, uint64_t layout, uint8_t *page,
                          uint64_t page_length, const uint8_t *record, uint64_t record_length, uint64_t which);
-uint64_t empty_collect(const uint8_t *table, uint64_t table_length, uint64_t books, uint8_t *page, uint64_t page_length,
-                       const uint8_t *bytes, uint64_t bytes_length);
+uint64_t empty_collect(const uint8_t *table, uint64_t table_length, uint64_t books, uint64_t layout, uint8_t *page,
+                       uint64_t page_length, const uint8_t *bytes, uint64_t bytes_length);
 struct plain_reading empty_read(uint64_t mode, const uint8_t *table, uint64_t table_length, uint64_t books,
-                                uint64_t book, const uint8_t *page, uint64_t page_length, uint64_t place, int32_t *out,
-                                uint64_t out_length);
+                                uint64_t book, uint64_t layout, const uint8_t *page, uint64_t page_length,
+                                uint64_t place, int32_t *out, uint64_t out_length);
 uint64_t empty_read_item(uint64_t mode, const uint8_t *table, uint64_t table_length, uint64_t books, uint64_t book,
-                         const uint8_t *page, uint64_t page_length, uint64_t place, int32_t *out, uint64_t out_length,
-                         uint64_t which);
+                         uint64_t layout, const uint8_t *page, uint64_t page_length, uint64_t place, int32_t *out,
+                         uint64_t out_length, uint64_t which);
+uint32_t empty_convert(const uint8_t *table, uint64_t table_length, uint64_t books, const uint8_t *page,
+                       uint64_t page_length, uint8_t *other, uint64_t other_length);
+uint64_t empty_convert_item(const uint8_t *table, uint64_t table_length, uint64_t books, const uint8_t *page,
+                            uint64_t page_length, uint8_t *other, uint64_t other_length, uint64_t which);
 struct plain_sending empty_send(const uint8_t *table, uint64_t table_length, uint64_t books, uint64_t book,
                                 const float *run, uint64_t run_length, uint8_t *buffer, uint64_t buffer_length);
 uint64_t empty_send_item(const uint8_t *table, uint64_t table_length, uint64_t books, uint64_t book, const float *run,
@@ -137,11 +146,14 @@ uint64_t empty_send_item(const uint8_t *table, uint64_t table_length, uint64_t b
 
 /* settings.c: the two tables, of one row and of 32; a table of one row for whole pages alone; those of a row with
    another enumeration than the product enumeration; a table of one row that 16 books share, while the others have one
-   book; the bytes of a page; and of a cell of it, but not of one of the whole pages, the place field and a record of
-   chance */
-enum { SETTINGS = 2, OTHER_ROWS = 2, MOST_CELLS = MOST_PLACES /* of the page of a setting */ };
+   book; the table of one row, and that with 16 books, for pages that are kept states first, while the others are kept
+   cell by cell; a table for the largest page there is; a setting with fewer places; the bytes of a page; and of a cell
+   of it, but not of one of the whole pages, the place field and a record of chance */
+enum { SETTINGS = 2, OTHER_ROWS = 2, MOST_CELLS = MOST_PLACES /* of the page of a setting, but for the largest */ };
 extern struct setting settings[SETTINGS], long_page, other_rows[OTHER_ROWS], many_books;
+extern struct setting states_first, many_books_states_first, largest_page;
 void begin_settings(void);
+struct setting with_places(const struct setting *with, uint64_t places);
 uint64_t page_size(const struct setting *setting);
 struct sharing sharing_of(const struct setting *setting, uint64_t book);
 const uint8_t *row_for(const struct setting *setting, uint64_t place);
@@ -160,6 +172,7 @@ void bench_takes(const struct setting *with);
 void bench_reads(const struct setting *with);
 void bench_overflowing_reads(const struct setting *with);
 void bench_sends(const struct setting *with);
+void bench_conversions(const struct setting *with);
 void bench_programs(char **arguments);
 
 #endif

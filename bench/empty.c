@@ -31,43 +31,60 @@ uint32_t empty_quantize(const uint8_t *table, uint64_t table_length, uint64_t bo
     return 0;
 }
 
-uint32_t empty_take(const uint8_t *table, uint64_t table_length, uint64_t books, uint8_t *page, uint64_t page_length,
-                    const uint8_t *record, uint64_t record_length)
+uint32_t empty_take(const uint8_t *table, uint64_t table_length, uint64_t books, uint64_t layout, uint8_t *page,
+                    uint64_t page_length, const uint8_t *record, uint64_t record_length)
 {
-    (void)table, (void)table_length, (void)books, (void)page, (void)page_length, (void)record, (void)record_length;
+    (void)table, (void)table_length, (void)books, (void)layout;
+    (void)page, (void)page_length, (void)record, (void)record_length;
     return 0;
 }
 
-uint64_t empty_take_item(const uint8_t *table, uint64_t table_length, uint64_t books, uint8_t *page,
+uint64_t empty_take_item(const uint8_t *table, uint64_t table_length, uint64_t books, uint64_t layout, uint8_t *page,
                          uint64_t page_length, const uint8_t *record, uint64_t record_length, uint64_t which)
 {
-    (void)table, (void)table_length, (void)books, (void)page, (void)page_length, (void)record, (void)record_length;
-    (void)which;
+    (void)table, (void)table_length, (void)books, (void)layout;
+    (void)page, (void)page_length, (void)record, (void)record_length, (void)which;
     return 0;
 }
 
-uint64_t empty_collect(const uint8_t *table, uint64_t table_length, uint64_t books, uint8_t *page, uint64_t page_length,
-                       const uint8_t *bytes, uint64_t bytes_length)
+uint64_t empty_collect(const uint8_t *table, uint64_t table_length, uint64_t books, uint64_t layout, uint8_t *page,
+                       uint64_t page_length, const uint8_t *bytes, uint64_t bytes_length)
 {
-    (void)table, (void)table_length, (void)books, (void)page, (void)page_length, (void)bytes, (void)bytes_length;
+    (void)table, (void)table_length, (void)books, (void)layout;
+    (void)page, (void)page_length, (void)bytes, (void)bytes_length;
     return 0;
 }
 
 struct plain_reading empty_read(uint64_t mode, const uint8_t *table, uint64_t table_length, uint64_t books,
-                                uint64_t book, const uint8_t *page, uint64_t page_length, uint64_t place, int32_t *out,
-                                uint64_t out_length)
+                                uint64_t book, uint64_t layout, const uint8_t *page, uint64_t page_length,
+                                uint64_t place, int32_t *out, uint64_t out_length)
 {
-    (void)mode, (void)table, (void)table_length, (void)books, (void)book;
+    (void)mode, (void)table, (void)table_length, (void)books, (void)book, (void)layout;
     (void)page, (void)page_length, (void)place, (void)out, (void)out_length;
     return (struct plain_reading){0};
 }
 
 uint64_t empty_read_item(uint64_t mode, const uint8_t *table, uint64_t table_length, uint64_t books, uint64_t book,
-                         const uint8_t *page, uint64_t page_length, uint64_t place, int32_t *out, uint64_t out_length,
-                         uint64_t which)
+                         uint64_t layout, const uint8_t *page, uint64_t page_length, uint64_t place, int32_t *out,
+                         uint64_t out_length, uint64_t which)
 {
-    (void)mode, (void)table, (void)table_length, (void)books, (void)book;
+    (void)mode, (void)table, (void)table_length, (void)books, (void)book, (void)layout;
     (void)page, (void)page_length, (void)place, (void)out, (void)out_length, (void)which;
+    return 0;
+}
+
+uint32_t empty_convert(const uint8_t *table, uint64_t table_length, uint64_t books, const uint8_t *page,
+                       uint64_t page_length, uint8_t *other, uint64_t other_length)
+{
+    (void)table, (void)table_length, (void)books, (void)page, (void)page_length, (void)other, (void)other_length;
+    return 0;
+}
+
+uint64_t empty_convert_item(const uint8_t *table, uint64_t table_length, uint64_t books, const uint8_t *page,
+                            uint64_t page_length, uint8_t *other, uint64_t other_length, uint64_t which)
+{
+    (void)table, (void)table_length, (void)books, (void)page, (void)page_length, (void)other, (void)other_length;
+    (void)which;
     return 0;
 }
 

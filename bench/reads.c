@@ -7,17 +7,18 @@
 #include <stdio.h>
 
 typedef struct plain_reading read_call(uint64_t mode, const uint8_t *table, uint64_t table_length, uint64_t books,
-                                       uint64_t book, const uint8_t *page, uint64_t page_length, uint64_t place,
-                                       int32_t *out, uint64_t out_length);
+                                       uint64_t book, uint64_t layout, const uint8_t *page, uint64_t page_length,
+                                       uint64_t place, int32_t *out, uint64_t out_length);
 typedef uint64_t read_item_call(uint64_t mode, const uint8_t *table, uint64_t table_length, uint64_t books,
-                                uint64_t book, const uint8_t *page, uint64_t page_length, uint64_t place, int32_t *out,
-                                uint64_t out_length, uint64_t which);
+                                uint64_t book, uint64_t layout, const uint8_t *page, uint64_t page_length,
+                                uint64_t place, int32_t *out, uint64_t out_length, uint64_t which);
 
 enum { KINDS = 16, ITEM_ANSWER = 1 };
 
 static const struct setting *setting; /* the one that is measured */
 static uint64_t books[INPUTS], places[INPUTS], modes[INPUTS];
-static uint8_t page[MOST_CELLS * CELL_SIZE];
+static uint8_t cells[MOST_CELLS][CELL_SIZE];
+static uint8_t page[MOST_CELLS * CELL_SIZE]; /* the same in the layout of the setting */
 
 static void run_read(any_call *call, uint64_t inputs)
 {
@@ -25,8 +26,8 @@ static void run_read(any_call *call, uint64_t inputs)
     read_call *const read_it = (read_call *)call;
     const uint64_t size = page_size(setting);
     for (uint64_t i = 0; i < inputs; i++)
-        read_it(modes[i], setting->table.bytes, setting->table.size, setting->books, books[i], page, size, places[i],
-                out, row_for(setting, places[i])[AT_LENGTH]);
+        read_it(modes[i], setting->table.bytes, setting->table.size, setting->books, books[i], setting->layout, page,
+                size, places[i], out, row_for(setting, places[i])[AT_LENGTH]);
 }
 
 static void run_read_item(any_call *call, uint64_t inputs)
@@ -35,8 +36,8 @@ static void run_read_item(any_call *call, uint64_t inputs)
     read_item_call *const read_it = (read_item_call *)call;
     const uint64_t size = page_size(setting);
     for (uint64_t i = 0; i < inputs; i++)
-        read_it(modes[i], setting->table.bytes, setting->table.size, setting->books, books[i], page, size, places[i],
-                out, row_for(setting, places[i])[AT_LENGTH], ITEM_ANSWER);
+        read_it(modes[i], setting->table.bytes, setting->table.size, setting->books, books[i], setting->layout, page,
+                size, places[i], out, row_for(setting, places[i])[AT_LENGTH], ITEM_ANSWER);
 }
 
 /* The last codeword that shows a point, which is past the end but for totals of a power of two. */
@@ -59,7 +60,8 @@ static int is_mended(uint64_t number)
 static void fill_cell(uint64_t number)
 {
     const uint64_t kind = number % KINDS;
-    uint8_t *cell = page + number * CELL_SIZE;
+    const uint64_t all = setting->places * setting->books;
+    uint8_t *cell = cells[number];
     __builtin_memset(cell, 0, CELL_SIZE);
     cell[AT_STATE] = kind == 0 ? STATE_EMPTY : kind == 1 ? STATE_CONTESTED : STATE_HELD;
     if (kind > 1)
@@ -68,6 +70,7 @@ static void fill_cell(uint64_t number)
         cell[AT_RECORD + AT_RADIUS_NUMBER] = MOST_RADII;
     if (is_mended(number))
         mend(row_for(setting, number % setting->places), cell + AT_RECORD);
+    lay_cell(page, setting->layout, all, number, cell);
 }
 
 /* What is read of a cell agrees in both modes. */
@@ -124,7 +127,7 @@ void bench_overflowing_reads(const struct setting *with)
         uint64_t number;
         do
             number = draw_input(i);
-        while (!is_overflowing(&setting->table, field_of(setting, number), page + number * CELL_SIZE));
+        while (!is_overflowing(&setting->table, field_of(setting, number), cells[number]));
         modes[i] = PLAIN_MODE;
     }
     measure_reads("read past the end");

@@ -1,10 +1,11 @@
 /* Calls by chance, many of them refused: plain C makes every check that ours makes, in the same order. */
 
+#include "../tests/second/draws/page_draws.h"
 #include "bench.h"
 
-enum { CALLS = 20000, MOST_RECORDS = 3 };
+enum { CALLS = 20000, MOST_RECORDS = 3, CONVERTED_IN = 4 /* one page of so many is converted */ };
 
-/* A table, its books, and a place of one of them that a call is asked about. */
+/* A table, its books, a place of one of them that a call is asked about, and the layout of the page. */
 struct asked {
     struct table table;
     uint64_t places; /* of a good table */
@@ -13,9 +14,10 @@ struct asked {
     uint64_t place;
     uint64_t row;    /* of the place, where there is one */
     uint64_t length; /* of that row */
+    uint64_t layout;
 };
 
-static uint8_t pages[2][CELL_SIZE * (MOST_PLACES * (MOST_BOOKS + 1) + 1)];
+static uint8_t pages[2][LENT_PAGE];
 
 /* The right number, or one beside it. */
 static uint64_t beside(uint64_t right)
@@ -51,7 +53,8 @@ static void try_points(void)
 
 static struct asked asked_by_chance(void)
 {
-    struct asked asked = {.table = chance_below(4) ? good_table_by_chance() : table_by_chance()};
+    struct asked asked = {.table = chance_below(4) ? good_table_by_chance() : table_by_chance(),
+                          .layout = layout_by_chance()};
     const struct table *table = &asked.table;
     const uint64_t books = 1 + chance_below(MOST_BOOKS);
     asked.places = plain_survey(table->bytes, table->size, 0).places;
@@ -77,7 +80,7 @@ static float coefficient_by_chance(void)
 
 static struct sharing sharing_asked(const struct asked *asked)
 {
-    return (struct sharing){&asked->table, asked->books, asked->book};
+    return (struct sharing){&asked->table, asked->books, asked->book, asked->layout};
 }
 
 static void try_vector(const struct asked *asked)
@@ -110,12 +113,13 @@ static uint64_t size_by_chance(const struct asked *asked)
    it. The same record arrives. */
 static void fill_cell(const struct asked *asked, struct record *in)
 {
-    uint8_t *cell = pages[0] + CELL_SIZE * (asked->book * asked->places + asked->place);
+    const uint64_t cells = asked->places * asked->books, number = asked->book * asked->places + asked->place;
     const uint64_t field = place_field(beside(asked->book), beside(asked->place)) & 0xffff;
-    cell[AT_STATE] = (uint8_t)chance_below(4);
+    uint8_t cell[CELL_SIZE] = {[AT_STATE] = (uint8_t)chance_below(4)};
     write_record(cell + AT_RECORD, field, beside(asked->row) & 0xff, chance_below(4), chance_below(64));
     __builtin_memcpy(in->bytes, cell + AT_RECORD, RECORD_SIZE);
-    __builtin_memcpy(pages[1] + (cell - pages[0]), cell, CELL_SIZE);
+    lay_cell(pages[0], asked->layout, cells, number, cell);
+    lay_cell(pages[1], asked->layout, cells, number, cell);
 }
 
 /* A cell of any state, a record for it that is the one that it holds or another, alone and in a run, and what is then
@@ -125,12 +129,19 @@ static void try_cell(const struct asked *asked)
     const uint64_t size = size_by_chance(asked), mode = chance_below(8) ? chance_below(MODES) : no_mode_by_chance();
     struct record in = {.length = beside(RECORD_SIZE)};
     set_two_bytes(in.bytes + AT_PLACE, place_field(asked->book, asked->place) & 0xffff);
-    if (asked->place < asked->places && asked->book < MOST_BOOKS)
+    if (asked->place < asked->places && asked->book < MOST_BOOKS && asked->books <= MOST_BOOKS + 1)
         fill_cell(asked, &in);
     in.bytes[chance_below(RECORD_SIZE)] ^= (uint8_t)chance_below(2);
     agree_on_take(sharing_asked(asked), pages[0], pages[1], size, &in);
     try_run(asked, size, &in);
     agree_on_read(mode, sharing_asked(asked), pages[0], size, asked->place, beside(asked->length));
+}
+
+/* With what the calls before have left in the page. Either page may have a wrong size. */
+static void try_conversion(const struct asked *asked)
+{
+    const uint64_t size = size_by_chance(asked), other_size = size_by_chance(asked);
+    agree_on_conversion(sharing_asked(asked), pages[0], size, other_size);
 }
 
 void compare_calls(void)
@@ -140,5 +151,7 @@ void compare_calls(void)
         try_points();
         try_vector(&asked);
         try_cell(&asked);
+        if (i % CONVERTED_IN == 0)
+            try_conversion(&asked);
     }
 }

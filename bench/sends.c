@@ -44,16 +44,6 @@ static void run_send_item(any_call *call, uint64_t places)
                 RECORD_SIZE * of->places, 0);
 }
 
-/* The same rows, each with as many times fewer places as there are to be fewer in all. */
-static struct setting with_places(const struct setting *with, uint64_t places)
-{
-    struct setting fewer = *with;
-    fewer.places = places;
-    for (uint8_t *row = fewer.table.bytes; row < fewer.table.bytes + fewer.table.size; row += ROW_SIZE)
-        set_two_bytes(row + AT_PLACES, two_bytes(row + AT_PLACES) * places / with->places);
-    return fewer;
-}
-
 static void draw_page(struct sent_page *page, struct setting setting)
 {
     page->setting = setting;

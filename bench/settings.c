@@ -1,7 +1,9 @@
 /* The pairing tables that the calls are measured with: one of a row, and one of 32 rows of all lengths with 4,096
    places; for whole pages one of a row of 4,096 places of length 16; and one of a row with the magnitude enumeration,
    and one with the product-product enumeration. The others have the product enumeration. Each has one book, but for the
-   table of a row once more, which 16 books share. */
+   table of a row once more, which 16 books share. These pages are kept cell by cell. Two of them come once more, kept
+   states first: that of the table of a row, with one book and with 16. At last the largest page there is, of 16 books
+   of 4,096 places. */
 
 #include "bench.h"
 
@@ -11,6 +13,9 @@ struct setting settings[SETTINGS] = {{.name = "1 row"}, {.name = "32 rows"}};
 struct setting long_page = {.name = "4,096 places of length 16"};
 struct setting other_rows[OTHER_ROWS] = {{.name = "1 magnitude row"}, {.name = "1 product-product row"}};
 struct setting many_books = {.name = "1 row, 16 books"};
+struct setting states_first = {.name = "1 row, states first"};
+struct setting many_books_states_first = {.name = "1 row, 16 books, states first"};
+struct setting largest_page = {.name = "16 books of 4,096 places"};
 
 static void begin_row(uint8_t *row, uint64_t length, uint64_t number)
 {
@@ -20,6 +25,7 @@ static void begin_row(uint8_t *row, uint64_t length, uint64_t number)
     set_two_bytes(row + AT_PLACES, PLACES);
 }
 
+/* One book, kept cell by cell. */
 static void begin_one_row(struct setting *setting, uint64_t length, uint64_t places)
 {
     const uint8_t radii[MOST_RADII] = {0, 1, 2, 4, 6, 8, 10, 12};
@@ -57,6 +63,23 @@ void begin_settings(void)
     }
     begin_one_row(&many_books, 8, PLACES);
     many_books.books = MOST_BOOKS;
+    begin_one_row(&states_first, 8, PLACES);
+    states_first.layout = STATES_FIRST;
+    begin_one_row(&many_books_states_first, 8, PLACES);
+    many_books_states_first.books = MOST_BOOKS;
+    many_books_states_first.layout = STATES_FIRST;
+    begin_one_row(&largest_page, 8, MOST_PLACES);
+    largest_page.books = MOST_BOOKS;
+}
+
+/* The same rows, each with as many times fewer places as there are to be fewer in all. */
+struct setting with_places(const struct setting *with, uint64_t places)
+{
+    struct setting fewer = *with;
+    fewer.places = places;
+    for (uint8_t *row = fewer.table.bytes; row < fewer.table.bytes + fewer.table.size; row += ROW_SIZE)
+        set_two_bytes(row + AT_PLACES, two_bytes(row + AT_PLACES) * places / with->places);
+    return fewer;
 }
 
 uint64_t page_size(const struct setting *setting)
@@ -66,7 +89,7 @@ uint64_t page_size(const struct setting *setting)
 
 struct sharing sharing_of(const struct setting *setting, uint64_t book)
 {
-    return (struct sharing){&setting->table, setting->books, book};
+    return (struct sharing){&setting->table, setting->books, book, setting->layout};
 }
 
 /* Of a table whose rows have 128 places each. */

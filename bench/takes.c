@@ -8,12 +8,13 @@
 
 #include <stdio.h>
 
-typedef uint32_t take_call(const uint8_t *table, uint64_t table_length, uint64_t books, uint8_t *page,
+typedef uint32_t take_call(const uint8_t *table, uint64_t table_length, uint64_t books, uint64_t layout, uint8_t *page,
                            uint64_t page_length, const uint8_t *record, uint64_t record_length);
-typedef uint64_t take_item_call(const uint8_t *table, uint64_t table_length, uint64_t books, uint8_t *page,
-                                uint64_t page_length, const uint8_t *record, uint64_t record_length, uint64_t which);
-typedef uint64_t collect_call(const uint8_t *table, uint64_t table_length, uint64_t books, uint8_t *page,
-                              uint64_t page_length, const uint8_t *bytes, uint64_t bytes_length);
+typedef uint64_t take_item_call(const uint8_t *table, uint64_t table_length, uint64_t books, uint64_t layout,
+                                uint8_t *page, uint64_t page_length, const uint8_t *record, uint64_t record_length,
+                                uint64_t which);
+typedef uint64_t collect_call(const uint8_t *table, uint64_t table_length, uint64_t books, uint64_t layout,
+                              uint8_t *page, uint64_t page_length, const uint8_t *bytes, uint64_t bytes_length);
 
 /* What is wrong with a record; nothing with most of them. */
 enum { NO_PLACE, FOREIGN_ROW, SHORT, RIGHT, KINDS = 16, CONTESTED_IN = 4 };
@@ -29,7 +30,8 @@ static void run_take(any_call *call, uint64_t inputs)
     take_call *const take_it = (take_call *)call;
     const uint64_t size = page_size(setting);
     for (const struct record *in = arrivals; in < arrivals + inputs; in++)
-        take_it(setting->table.bytes, setting->table.size, setting->books, pages[1], size, in->bytes, in->length);
+        take_it(setting->table.bytes, setting->table.size, setting->books, setting->layout, pages[1], size, in->bytes,
+                in->length);
 }
 
 static void run_take_item(any_call *call, uint64_t inputs)
@@ -37,14 +39,15 @@ static void run_take_item(any_call *call, uint64_t inputs)
     take_item_call *const take_it = (take_item_call *)call;
     const uint64_t size = page_size(setting);
     for (const struct record *in = arrivals; in < arrivals + inputs; in++)
-        take_it(setting->table.bytes, setting->table.size, setting->books, pages[0], size, in->bytes, in->length, 0);
+        take_it(setting->table.bytes, setting->table.size, setting->books, setting->layout, pages[0], size, in->bytes,
+                in->length, 0);
 }
 
 static void run_collect(any_call *call, uint64_t inputs)
 {
     collect_call *const collect_it = (collect_call *)call;
-    collect_it(setting->table.bytes, setting->table.size, setting->books, pages[0], page_size(setting), run,
-               RECORD_SIZE * inputs - 1);
+    collect_it(setting->table.bytes, setting->table.size, setting->books, setting->layout, pages[0],
+               page_size(setting), run, RECORD_SIZE * inputs - 1);
 }
 
 static uint64_t agree(const struct record *in)

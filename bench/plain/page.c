@@ -1,4 +1,5 @@
-/* Taking a record into a page, or each of a run, and reading a place; docs/RULES.md, "The page" and "Books". */
+/* Taking a record into a page, or each of a run, and reading a place, in either layout; docs/RULES.md, "The page",
+   "Books" and "States first". */
 
 #include "plain.h"
 
@@ -17,28 +18,27 @@ static int are_of_one_place(const uint8_t *one, const uint8_t *other)
 }
 
 /* 12, and the page rule. The record is of the place of the cell, and of its row. */
-static inline uint32_t put_record(uint8_t *cell, const uint8_t *record)
+static inline uint32_t put_record(uint8_t *state, uint8_t *held, const uint8_t *record)
 {
-    uint8_t *held = cell + AT_RECORD;
-    if (cell[AT_STATE] == STATE_EMPTY) {
-        cell[AT_STATE] = STATE_HELD;
+    if (*state == STATE_EMPTY) {
+        *state = STATE_HELD;
         __builtin_memcpy(held, record, RECORD_SIZE);
         return 0;
     }
-    if (cell[AT_STATE] != STATE_HELD)
-        return cell[AT_STATE] == STATE_CONTESTED ? 0 : 12;
+    if (*state != STATE_HELD)
+        return *state == STATE_CONTESTED ? 0 : 12;
     if (are_same(held, record))
         return 0;
     if (!are_of_one_place(held, record))
         return 12;
-    cell[AT_STATE] = STATE_CONTESTED;
+    *state = STATE_CONTESTED;
     __builtin_memset(held, 0, RECORD_SIZE);
     return 0;
 }
 
 /* "take | 17, 7, 4, 8, 9, 12". The pass that checks the table finds the row of the record's place. */
-uint32_t plain_take(const uint8_t *table, uint64_t table_length, uint64_t books, uint8_t *page, uint64_t page_length,
-                    const uint8_t *record, uint64_t record_length)
+uint32_t plain_take(const uint8_t *table, uint64_t table_length, uint64_t books, uint64_t layout, uint8_t *page,
+                    uint64_t page_length, const uint8_t *record, uint64_t record_length)
 {
     const int is_record = record_length == RECORD_SIZE;
     const uint64_t field = is_record ? pair_at(record + AT_PLACE) : 0;
@@ -48,29 +48,32 @@ uint32_t plain_take(const uint8_t *table, uint64_t table_length, uint64_t books,
     const struct survey survey = plain_survey(table, table_length, place);
     if (survey.places == 0)
         return 7;
-    if (page_length != CELL_SIZE * survey.places * books || !is_record)
+    const uint64_t cells = survey.places * books, cell = book * survey.places + place;
+    if (page_length != CELL_SIZE * cells || !is_record)
         return 4;
     if (book >= books || place >= survey.places)
         return 8;
     if (record[AT_ROW] != survey.row)
         return 9;
-    return put_record(page + plain_cell(survey.places, book, place), record);
+    return put_record(page + plain_state_at(layout, cell), page + plain_record_at(layout, cells, cell), record);
 }
 
 /* Whether the take is refused. The record has 8 bytes, and the page its cells. A record claims its place if there is
    such a book, and the place is one of the record's own row. */
-int plain_claim(const struct row_ends *rows, uint64_t books, uint8_t *page, const uint8_t *record)
+int plain_claim(const struct row_ends *rows, uint64_t books, uint64_t layout, uint8_t *page, const uint8_t *record)
 {
     const uint64_t field = pair_at(record + AT_PLACE), book = plain_book(field), place = plain_place(field);
+    const uint64_t places = rows->ends[rows->number], cell = book * places + place;
     const uint32_t row = record[AT_ROW];
     if (book >= books || row >= rows->number || place < rows->ends[row] || place >= rows->ends[row + 1])
         return 1;
-    return put_record(page + plain_cell(rows->ends[rows->number], book, place), record) != 0;
+    uint8_t *held = page + plain_record_at(layout, places * books, cell);
+    return put_record(page + plain_state_at(layout, cell), held, record) != 0;
 }
 
 /* "how many takes were refused". Where the rows end is found once. */
-uint64_t plain_collect(const uint8_t *table, uint64_t table_length, uint64_t books, uint8_t *page, uint64_t page_length,
-                       const uint8_t *bytes, uint64_t bytes_length)
+uint64_t plain_collect(const uint8_t *table, uint64_t table_length, uint64_t books, uint64_t layout, uint8_t *page,
+                       uint64_t page_length, const uint8_t *bytes, uint64_t bytes_length)
 {
     const uint64_t places = plain_survey(table, table_length, 0).places;
     const uint64_t records = bytes_length / RECORD_SIZE, shorter = bytes_length % RECORD_SIZE != 0;
@@ -79,7 +82,7 @@ uint64_t plain_collect(const uint8_t *table, uint64_t table_length, uint64_t boo
     const struct row_ends rows = plain_row_ends(table, table_length);
     uint64_t refused = shorter;
     for (uint64_t i = 0; i < records; i++)
-        refused += (uint64_t)plain_claim(&rows, books, page, bytes + i * RECORD_SIZE);
+        refused += (uint64_t)plain_claim(&rows, books, layout, page, bytes + i * RECORD_SIZE);
     return refused;
 }
 
@@ -110,18 +113,18 @@ static struct plain_reading look_at_held(uint64_t mode, const uint8_t *row, cons
     return (struct plain_reading){0, is_sound ? SOUND : MENDED, 0, is_sound ? 0 : (uint32_t)(index - total)};
 }
 
-/* Refusal 12, or what the cell shows, with its point or zeros in `out`. */
-struct plain_reading plain_look(uint64_t mode, const uint8_t *row, uint64_t row_number, const uint8_t *cell,
-                                uint64_t field, int32_t *out)
+/* Refusal 12, or what the cell of that state and record shows, with its point or zeros in `out`. */
+struct plain_reading plain_look(uint64_t mode, const uint8_t *row, uint64_t row_number, uint32_t state,
+                                const uint8_t *record, uint64_t field, int32_t *out)
 {
-    switch (cell[AT_STATE]) {
+    switch (state) {
     case STATE_EMPTY:
         return zeros(MISSING, 0, row[AT_LENGTH], out);
     case STATE_CONTESTED:
         return zeros(CONTESTED, 0, row[AT_LENGTH], out);
     case STATE_HELD:
-        if (pair_at(cell + AT_RECORD + AT_PLACE) == field && cell[AT_RECORD + AT_ROW] == row_number)
-            return look_at_held(mode, row, cell + AT_RECORD, out);
+        if (pair_at(record + AT_PLACE) == field && record[AT_ROW] == row_number)
+            return look_at_held(mode, row, record, out);
         break;
     default:
         break;
@@ -131,8 +134,8 @@ struct plain_reading plain_look(uint64_t mode, const uint8_t *row, uint64_t row_
 
 /* "read | 16, 17, 7, 8, 4, 12". */
 struct plain_reading plain_read(uint64_t mode, const uint8_t *table, uint64_t table_length, uint64_t books,
-                                uint64_t book, const uint8_t *page, uint64_t page_length, uint64_t place, int32_t *out,
-                                uint64_t out_length)
+                                uint64_t book, uint64_t layout, const uint8_t *page, uint64_t page_length,
+                                uint64_t place, int32_t *out, uint64_t out_length)
 {
     if (mode >= MODES)
         return (struct plain_reading){.refusal = 16};
@@ -144,8 +147,9 @@ struct plain_reading plain_read(uint64_t mode, const uint8_t *table, uint64_t ta
     if (book >= books || place >= survey.places)
         return (struct plain_reading){.refusal = 8};
     const uint8_t *row = table + survey.row * ROW_SIZE;
-    if (page_length != CELL_SIZE * survey.places * books || out_length != row[AT_LENGTH])
+    const uint64_t cells = survey.places * books, cell = book * survey.places + place;
+    if (page_length != CELL_SIZE * cells || out_length != row[AT_LENGTH])
         return (struct plain_reading){.refusal = 4};
-    const uint8_t *cell = page + plain_cell(survey.places, book, place);
-    return plain_look(mode, row, survey.row, cell, plain_field(book, place), out);
+    return plain_look(mode, row, survey.row, page[plain_state_at(layout, cell)],
+                      page + plain_record_at(layout, cells, cell), plain_field(book, place), out);
 }

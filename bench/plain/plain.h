@@ -1,6 +1,6 @@
 /* Plain C of the same calls, for speed: the answers, refusals and order of checks of docs/RULES.md, with counts from
    tables, but for the magnitude enumeration, which makes its own. It shares nothing with the calls that it is measured
-   against, and nothing but the names of fields, sizes and selectors with the second program. */
+   against, and nothing but the names of fields, sizes, selectors and layouts with the second program. */
 
 #ifndef BENCH_PLAIN_H
 #define BENCH_PLAIN_H
@@ -91,16 +91,22 @@ uint32_t plain_quantize(const uint8_t *table, uint64_t table_length, uint64_t bo
                         uint64_t record_length);
 
 /* page.c: of the calls, and with a table that has passed its check; the field is that of a place in its book */
-int plain_claim(const struct row_ends *rows, uint64_t books, uint8_t *page, const uint8_t *record);
-struct plain_reading plain_look(uint64_t mode, const uint8_t *row, uint64_t row_number, const uint8_t *cell,
-                                uint64_t field, int32_t *out);
-uint32_t plain_take(const uint8_t *table, uint64_t table_length, uint64_t books, uint8_t *page, uint64_t page_length,
-                    const uint8_t *record, uint64_t record_length);
-uint64_t plain_collect(const uint8_t *table, uint64_t table_length, uint64_t books, uint8_t *page, uint64_t page_length,
-                       const uint8_t *bytes, uint64_t bytes_length);
+int plain_claim(const struct row_ends *rows, uint64_t books, uint64_t layout, uint8_t *page, const uint8_t *record);
+struct plain_reading plain_look(uint64_t mode, const uint8_t *row, uint64_t row_number, uint32_t state,
+                                const uint8_t *record, uint64_t field, int32_t *out);
+uint32_t plain_take(const uint8_t *table, uint64_t table_length, uint64_t books, uint64_t layout, uint8_t *page,
+                    uint64_t page_length, const uint8_t *record, uint64_t record_length);
+uint64_t plain_collect(const uint8_t *table, uint64_t table_length, uint64_t books, uint64_t layout, uint8_t *page,
+                       uint64_t page_length, const uint8_t *bytes, uint64_t bytes_length);
 struct plain_reading plain_read(uint64_t mode, const uint8_t *table, uint64_t table_length, uint64_t books,
-                                uint64_t book, const uint8_t *page, uint64_t page_length, uint64_t place, int32_t *out,
-                                uint64_t out_length);
+                                uint64_t book, uint64_t layout, const uint8_t *page, uint64_t page_length,
+                                uint64_t place, int32_t *out, uint64_t out_length);
+
+/* conversion.c */
+uint32_t plain_to_states_first(const uint8_t *table, uint64_t table_length, uint64_t books, const uint8_t *cell_by_cell,
+                               uint64_t cell_by_cell_length, uint8_t *states_first, uint64_t states_first_length);
+uint32_t plain_to_cell_by_cell(const uint8_t *table, uint64_t table_length, uint64_t books, const uint8_t *states_first,
+                               uint64_t states_first_length, uint8_t *cell_by_cell, uint64_t cell_by_cell_length);
 
 /* send.c */
 struct plain_sending plain_send(const uint8_t *table, uint64_t table_length, uint64_t books, uint64_t book,
@@ -117,7 +123,7 @@ static inline uint32_t pair_at(const uint8_t *high)
     return (uint32_t)high[0] << 8 | high[1];
 }
 
-/* "Books": whether there can be so many, the place field and what it numbers, and where the cell of a place begins. */
+/* "Books": whether there can be so many, the place field and what it numbers. */
 static inline int are_books(uint64_t books)
 {
     return books - 1 < MOST_BOOKS;
@@ -138,9 +144,15 @@ static inline uint64_t plain_place(uint64_t field)
     return field & (MOST_PLACES - 1);
 }
 
-static inline uint64_t plain_cell(uint64_t places, uint64_t book, uint64_t place)
+/* Where the state of a cell stands in a page of that layout, and where its record begins if there are so many cells. */
+static inline uint64_t plain_state_at(uint64_t layout, uint64_t cell)
 {
-    return CELL_SIZE * (book * places + place);
+    return layout == CELL_BY_CELL ? CELL_SIZE * cell + AT_STATE : cell;
+}
+
+static inline uint64_t plain_record_at(uint64_t layout, uint64_t cells, uint64_t cell)
+{
+    return layout == CELL_BY_CELL ? CELL_SIZE * cell + AT_RECORD : cells + RECORD_SIZE * cell;
 }
 
 #pragma GCC visibility pop

@@ -1,5 +1,5 @@
 /* The listing program as plain C, for speed: it reads and writes in blocks and makes its own decimals; docs/RULES.md,
-   "Listing program". The page has one book, so the field of a place is the place. */
+   "Listing program". The page has one book, so the field of a place is the place, and it is kept cell by cell. */
 
 #include "../plain/plain.h"
 #include "filling.h"
@@ -116,7 +116,9 @@ static void put_places(const uint8_t *table, uint64_t places, uint64_t *tally)
         for (; place >= end; end += pair_at(table + number * ROW_SIZE + AT_PLACES))
             number++;
         const uint8_t *row = table + number * ROW_SIZE;
-        const struct plain_reading reading = plain_look(MENDING_MODE, row, number, page + place * CELL_SIZE, place, point);
+        const uint8_t *cell = page + place * CELL_SIZE;
+        const struct plain_reading reading =
+            plain_look(MENDING_MODE, row, number, cell[AT_STATE], cell + AT_RECORD, place, point);
         put_line(place, row[AT_LENGTH], reading, point);
         tally[reading.answer]++;
     }
@@ -143,7 +145,7 @@ static uint64_t take_all(const uint8_t *table, uint64_t table_length)
     for (size_t size = sizeof block; size == sizeof block;) {
         size = fill(file, block, sizeof block);
         for (size_t at = 0; at + RECORD_SIZE <= size; at += RECORD_SIZE)
-            refused += (uint64_t)plain_claim(&rows, ONE_BOOK, page, block + at);
+            refused += (uint64_t)plain_claim(&rows, ONE_BOOK, CELL_BY_CELL, page, block + at);
         refused += size % RECORD_SIZE != 0;
     }
     close(file);

@@ -1,11 +1,23 @@
 # Reads the facts that facts.awk prints, then docs/CALLS.md and docs/RULES.md, and prints where they differ.
-# docs/CALLS.md has an entry for each call and no other, with its signature, every type, every refusal's number, and
-# under "Refuses" the numbers in their order. docs/RULES.md has each call's order, and each number among its refusals.
-function refuses(call) {
-    if (call == "last_line" || call == "refused_line")
-        return order["line"]
+# docs/CALLS.md has an entry for each call and no other, with its signature, every type that is named there, every
+# refusal's number, and under "Refuses" the numbers in their order. docs/RULES.md has a row for each call that refuses,
+# with its order, and each number among its refusals.
+
+# Whose row a call has in docs/RULES.md: a call for C has that of its Rattle call, and check_shell that of count.
+function row(call) {
     sub(/^aldrynja_/, "", call)
-    return call == "check_shell" ? order["count"] : call in order ? order[call] : "nothing"
+    return call == "check_shell" ? "count" : call
+}
+# The name by which the first demand has the call of a row: both conversions are one there, and both calls of one line.
+function demanded(call) {
+    call = row(call)
+    if (call == "to_states_first" || call == "to_cell_by_cell")
+        return "convert"
+    return call == "last_line" || call == "refused_line" ? "line" : call
+}
+function refuses(call) {
+    call = demanded(call)
+    return call in order ? order[call] : "nothing"
 }
 BEGIN { FS = "\t" }
 $1 == "call" { signature[$2 "::" $3] = $4; next }
@@ -38,10 +50,25 @@ function check_calls(    each, name) {
             wrong("docs/CALLS.md: " each " is " signature[each])
         if (told[each] != refuses(name))
             wrong("docs/CALLS.md: " each " refuses " refuses(name) ", not " told[each])
+        if (refuses(name) != "nothing" && !(row(name) in rule))
+            wrong("docs/RULES.md: has no order of " row(name))
     }
-    for (each in type)
-        if (!index(code, each))
+    for (each in type) {
+        name = each
+        gsub(/^pub [a-z]+ |[^A-Za-z].*/, "", name)
+        if (code ~ "[^A-Za-z]" name "[^A-Za-z]" && !index(code, each))
             wrong("docs/CALLS.md: has not " each)
+    }
+}
+function check_orders(    each, ordered) {
+    for (each in rule) {
+        ordered[demanded(each)] = 1
+        if (rule[each] != refuses(each))
+            wrong("docs/RULES.md: the order of " each " is " refuses(each) ", not " rule[each])
+    }
+    for (each in order)
+        if (!(each in ordered))
+            wrong("docs/RULES.md: has no order of " each)
 }
 function check_refusals(    each) {
     for (each in refusal)
@@ -56,13 +83,11 @@ function check_refusals(    each) {
     for (each in listed)
         if (!(each in number))
             wrong("docs/RULES.md: no call refuses with " each)
-    for (each in order)
-        if (each != "line" && rule[each] != order[each])
-            wrong("docs/RULES.md: the order of " each " is " order[each] ", not " rule[each])
 }
 END {
     gsub(/[ ]+/, " ", code)
     check_calls()
+    check_orders()
     check_refusals()
     finish(entries)
 }

@@ -2,7 +2,8 @@
 
 #include "page.h"
 
-const char *const call_words[CALLS] = {"take ", "read ", "coefficient ", "tally "};
+const char *const call_words[CALLS] = {"take ",  "read ",            "coefficient ",
+                                       "tally ", "to_states_first ", "to_cell_by_cell "};
 
 /* The lengths of the lists that refusals are: 7 names the row, and 12 of the tally the place. */
 static const uint8_t refusals[CALLS][MOST_REFUSAL + 1] = {
@@ -10,6 +11,8 @@ static const uint8_t refusals[CALLS][MOST_REFUSAL + 1] = {
     [OF_READ] = {[16] = 1, [17] = 1, [7] = 2, [8] = 1, [4] = 1, [12] = 1},
     [OF_COEFFICIENT] = {[16] = 1, [17] = 1, [7] = 2, [8] = 1, [4] = 1, [13] = 1, [12] = 1},
     [OF_TALLY] = {[16] = 1, [17] = 1, [7] = 2, [8] = 1, [4] = 1, [12] = 2},
+    [OF_TO_STATES_FIRST] = {[17] = 1, [7] = 2, [4] = 1},
+    [OF_TO_CELL_BY_CELL] = {[17] = 1, [7] = 2, [4] = 1},
 };
 
 static uint64_t read_next_number(struct text *text)
@@ -19,17 +22,36 @@ static uint64_t read_next_number(struct text *text)
 }
 
 /* The page before the call, which is also what a refusal must leave. If it has the cells of all its books, they stand
-   there one after another. */
+   there one after another; else it is as one book, with part of a cell made a whole one. */
 static void read_page(struct text *text, struct page_case *to, uint64_t books)
 {
     const uint64_t places = judge(to->table.bytes, to->table.size).places;
     read_word(text, " ");
-    fill_page(&to->page, to->after, read_bytes(text, to->after, sizeof to->after));
+    const uint64_t size = read_bytes(text, to->after, sizeof to->after);
+    if (!is_no_number_of_books(books) && size == CELL_SIZE * places * books)
+        begin_books(&to->page, places, books);
+    else
+        begin_page(&to->page, (size + CELL_SIZE - 1) / CELL_SIZE);
+    fill_page(&to->page, to->after, size);
     to->page.books = books;
-    if (!is_no_number_of_books(books) && to->page.size == CELL_SIZE * places * books) {
-        to->page.places = places;
-        to->page.filled = books;
-    }
+}
+
+static int is_looking(enum of_call call)
+{
+    return call == OF_READ || call == OF_COEFFICIENT || call == OF_TALLY;
+}
+
+static int is_conversion(enum of_call call)
+{
+    return call == OF_TO_STATES_FIRST || call == OF_TO_CELL_BY_CELL;
+}
+
+/* That of the page, which a conversion says by its word. */
+static uint64_t read_layout(struct text *text, enum of_call call)
+{
+    if (is_conversion(call))
+        return call == OF_TO_CELL_BY_CELL ? STATES_FIRST : CELL_BY_CELL;
+    return read_next_number(text);
 }
 
 /* What the call is lent behind the mode. */
@@ -38,10 +60,11 @@ static void read_lent(struct text *text, struct page_case *to)
     const int has_place = to->call == OF_READ || to->call == OF_COEFFICIENT;
     const uint64_t books = read_number_field(text);
     read_table(text, &to->table);
-    to->book = to->call == OF_TAKE ? 0 : read_next_number(text);
+    to->book = is_looking(to->call) ? read_next_number(text) : 0;
     to->place = has_place ? read_next_number(text) : 0;
+    to->page.layout = read_layout(text, to->call);
     read_page(text, to, books);
-    to->number = has_place ? read_next_number(text) : 0;
+    to->number = has_place || is_conversion(to->call) ? read_next_number(text) : 0;
     read_word(text, " ");
     if (to->call == OF_TAKE) {
         to->arrival.length = read_bytes(text, to->arrival.bytes, sizeof to->arrival.bytes);
@@ -98,9 +121,10 @@ static void read_counts(struct text *text, struct page_case *to)
 void read_case(struct text *text, struct page_case *to)
 {
     typedef void read_rest(struct text *text, struct page_case *to);
-    static read_rest *const answered[CALLS] = {read_page_after, read_reading, read_reading, read_counts};
+    static read_rest *const answered[CALLS] = {read_page_after, read_reading,    read_reading,
+                                               read_counts,     read_page_after, read_page_after};
     to->call = (enum of_call)read_one_of(text, call_words, CALLS);
-    to->mode = to->call == OF_TAKE ? 0 : read_number_field(text);
+    to->mode = is_looking(to->call) ? read_number_field(text) : 0;
     read_lent(text, to);
     to->bits = 0;
     if (read_answer(text, &to->expected, refusals[to->call]))

@@ -6,26 +6,30 @@
 #include <stdio.h>
 
 /* Records of a table of two places, of place 0 if nothing else is said: of the books 0, 1, 2 and 15; the first two with
-   a bit of the codeword changed; one of another row; and two of place 2, which is not there in any book. */
+   a bit of the codeword changed; one of another row; one of place 1; and two of place 2, which is not there in any
+   book. */
 static const uint8_t of_0[] = {0x00, 0, 0, 1, 0, 0, 0, 0x05}, of_1[] = {0x10, 0, 0, 1, 0, 0, 0, 0x05};
 static const uint8_t of_2[] = {0x20, 0, 0, 1, 0, 0, 0, 0x05}, of_15[] = {0xf0, 0, 0, 1, 0, 0, 0, 0x05};
 static const uint8_t other_of_0[] = {0x00, 0, 0, 1, 0, 0, 0, 0x07}, other_of_1[] = {0x10, 0, 0, 1, 0, 0, 0, 0x07};
-static const uint8_t foreign_of_1[] = {0x10, 0, 1, 1, 0, 0, 0, 0x05};
+static const uint8_t foreign_of_1[] = {0x10, 0, 1, 1, 0, 0, 0, 0x05}, place_1_of_1[] = {0x10, 1, 0, 1, 0, 0, 0, 0x05};
 static const uint8_t past_0[] = {0x00, 2, 0, 1, 0, 0, 0, 0x05}, past_1[] = {0x10, 2, 0, 1, 0, 0, 0, 0x05};
 
-/* The cells that come about. */
-#define EMPTY_CELL 0, 0, 0, 0, 0, 0, 0, 0, 0
-#define OF_0 1, 0x00, 0, 0, 1, 0, 0, 0, 0x05
-#define OF_1 1, 0x10, 0, 0, 1, 0, 0, 0, 0x05
-#define BOTH_CAME 2, 0, 0, 0, 0, 0, 0, 0, 0
+/* The records in the page. */
+#define ZEROS 0, 0, 0, 0, 0, 0, 0, 0
+#define OF_0 0x00, 0, 0, 1, 0, 0, 0, 0x05
+#define OF_1 0x10, 0, 0, 1, 0, 0, 0, 0x05
 
-/* The pages: nothing, book 1 alone, both books; a record of book 0 in the cell of book 1; a contested place. */
+/* The pages of two books, four states and then four records: nothing, place 1 of book 1 alone, place 0 of book 1 alone,
+   both books; a record of book 0 in the cell of book 1; a contested place. And two pages of one book. */
 #define NOTHING {0}
-#define BOOK_1 {EMPTY_CELL, EMPTY_CELL, OF_1}
-#define BOTH {OF_0, EMPTY_CELL, OF_1}
-#define OTHER_BOOK {OF_0, EMPTY_CELL, OF_0}
-#define CONTESTED_1 {OF_0, EMPTY_CELL, BOTH_CAME}
-#define CONTESTED_0 {BOTH_CAME, EMPTY_CELL, OF_1}
+#define PLACE_1 {0, 0, 0, 1, ZEROS, ZEROS, ZEROS, 0x10, 1, 0, 1, 0, 0, 0, 0x05}
+#define BOOK_1 {0, 0, 1, 0, ZEROS, ZEROS, OF_1}
+#define BOTH {1, 0, 1, 0, OF_0, ZEROS, OF_1}
+#define OTHER_BOOK {1, 0, 1, 0, OF_0, ZEROS, OF_0}
+#define CONTESTED_1 {1, 0, 2, 0, OF_0, ZEROS, ZEROS}
+#define CONTESTED_0 {2, 0, 1, 0, ZEROS, ZEROS, OF_1}
+#define ALONE {1, 0, OF_0}
+#define CONTESTED_ALONE {2, 0, ZEROS}
 
 /* The sizes of pages of one, two and three books; there is room for three. */
 enum { TWO_PLACES = 2, ONE = TWO_PLACES * CELL_SIZE, TWO = 2 * ONE, THREE = 3 * ONE };
@@ -41,6 +45,7 @@ static const struct {
     uint32_t answer;
     uint8_t after[THREE];
 } takes[] = {
+    {NOTHING, 2, 16, TWO, place_1_of_1, 8, ALDRYNJA_TAKEN, PLACE_1},
     {NOTHING, 2, 16, TWO, of_1, 8, ALDRYNJA_TAKEN, BOOK_1},
     {BOOK_1, 2, 16, TWO, of_0, 8, ALDRYNJA_TAKEN, BOTH},
     {BOTH, 2, 16, TWO, of_1, 8, ALDRYNJA_TAKEN, BOTH},
@@ -51,8 +56,8 @@ static const struct {
     {BOTH, 2, 16, TWO, past_1, 8, ALDRYNJA_NO_SUCH_PLACE, BOTH},
     {BOTH, 2, 16, TWO, of_2, 8, ALDRYNJA_NO_SUCH_PLACE, BOTH},
     {BOTH, 2, 16, TWO, of_15, 8, ALDRYNJA_NO_SUCH_PLACE, BOTH},
-    {BOTH, 1, 16, ONE, other_of_1, 8, ALDRYNJA_NO_SUCH_PLACE, BOTH},
-    {BOTH, 1, 16, ONE, other_of_0, 8, ALDRYNJA_TAKEN, CONTESTED_0},
+    {ALONE, 1, 16, ONE, other_of_1, 8, ALDRYNJA_NO_SUCH_PLACE, ALONE},
+    {ALONE, 1, 16, ONE, other_of_0, 8, ALDRYNJA_TAKEN, CONTESTED_ALONE},
     {OTHER_BOOK, 2, 16, TWO, of_1, 8, ALDRYNJA_BAD_CELL, OTHER_BOOK},
     {OTHER_BOOK, 2, 16, TWO, of_0, 8, ALDRYNJA_TAKEN, OTHER_BOOK},
     {BOTH, 1, 16, TWO, other_of_0, 8, ALDRYNJA_BUFFER_LENGTH, BOTH},
@@ -100,8 +105,8 @@ static void compare_book(uint64_t books, uint8_t book, uint8_t place)
     compare_case("aldrynja_take, a number of books", books, is_number ? of_book : ALDRYNJA_BOOKS_OUTSIDE,
                  aldrynja_take(two_places, ROW_SIZE, books, page, ONE * books, record, RECORD_SIZE));
     for (uint64_t i = 0; i < sizeof page; i++) {
-        const uint8_t held = i % CELL_SIZE == AT_STATE ? 1 : record[i % CELL_SIZE - AT_RECORD];
-        compare_case(of_page, books, is_number && is_there && i / CELL_SIZE == cell ? held : 0, page[i]);
+        const uint8_t held = held_alone(TWO_PLACES * books, cell, record, i);
+        compare_case(of_page, books, is_number && is_there ? held : 0, page[i]);
     }
 }
 

@@ -21,16 +21,15 @@ static const uint8_t first[] = {0, 0, 0, 1, 0, 0, 0, 0x05}, second[] = {0, 1, 0,
 static const uint8_t changed[] = {0, 0, 0, 1, 0, 0, 0, 0x07}, foreign[] = {0, 0, 1, 1, 0, 0, 0, 0x05};
 static const uint8_t past[] = {0, 2, 0, 1, 0, 0, 0, 0x05}, foreign_past[] = {0, 2, 1, 1, 0, 0, 0, 0x05};
 
-/* The cells that come about, and two that only somebody else can make. */
-#define FIRST 1, 0, 0, 0, 1, 0, 0, 0, 0x05
-#define SECOND 1, 0, 1, 0, 1, 0, 0, 0, 0x12
-#define BOTH_CAME 2, 0, 0, 0, 0, 0, 0, 0, 0
-#define OF_ANOTHER_ROW 1, 0, 0, 1, 1, 0, 0, 0, 0x05
-#define STATE_3 3, 0, 0, 0, 0, 0, 0, 0, 0
+/* The records in the page, behind its two states; the last one only somebody else can bring there. */
+#define FIRST 0, 0, 0, 1, 0, 0, 0, 0x05
+#define SECOND 0, 1, 0, 1, 0, 0, 0, 0x12
+#define ZEROS 0, 0, 0, 0, 0, 0, 0, 0
+#define OF_ANOTHER_ROW 0, 0, 1, 1, 0, 0, 0, 0x05
 
-/* One take after the other into a page that is empty at first, but for one byte that is set before: what is lent, and
-   then the answer and the page. */
-enum { ROW_BYTE = AT_RECORD + AT_ROW };
+/* One take after the other into a page that is empty at first, but for one byte of place 0 that is set before: its
+   state, or the row of its record. Then what is lent, the answer and the page. */
+enum { STATE_BYTE = 0, ROW_BYTE = 2 + AT_ROW };
 static const struct {
     uint64_t at;
     uint8_t byte;
@@ -41,26 +40,26 @@ static const struct {
     uint32_t answer;
     uint8_t page[2 * CELL_SIZE];
 } takes[] = {
-    {AT_STATE, 0, 16, 18, foreign, 8, ALDRYNJA_FOREIGN_ROW, {0}},
-    {AT_STATE, 0, 16, 18, first, 8, ALDRYNJA_TAKEN, {FIRST}},
-    {AT_STATE, 1, 16, 18, second, 8, ALDRYNJA_TAKEN, {FIRST, SECOND}},
-    {AT_STATE, 1, 16, 18, first, 8, ALDRYNJA_TAKEN, {FIRST, SECOND}},
-    {AT_STATE, 1, 16, 18, past, 8, ALDRYNJA_NO_SUCH_PLACE, {FIRST, SECOND}},
-    {AT_STATE, 1, 16, 18, changed, 7, ALDRYNJA_BUFFER_LENGTH, {FIRST, SECOND}},
-    {AT_STATE, 1, 16, 17, changed, 8, ALDRYNJA_BUFFER_LENGTH, {FIRST, SECOND}},
-    {AT_STATE, 1, 15, 18, changed, 8, ALDRYNJA_BAD_TABLE, {FIRST, SECOND}},
-    {AT_STATE, 1, 16, 18, foreign, 8, ALDRYNJA_FOREIGN_ROW, {FIRST, SECOND}},
-    {AT_STATE, 1, 16, 18, foreign_past, 8, ALDRYNJA_NO_SUCH_PLACE, {FIRST, SECOND}},
-    {AT_STATE, 1, 16, 18, foreign, 7, ALDRYNJA_BUFFER_LENGTH, {FIRST, SECOND}},
-    {AT_STATE, 1, 16, 17, foreign, 8, ALDRYNJA_BUFFER_LENGTH, {FIRST, SECOND}},
-    {AT_STATE, 1, 15, 18, foreign, 8, ALDRYNJA_BAD_TABLE, {FIRST, SECOND}},
-    {ROW_BYTE, 1, 16, 18, first, 8, ALDRYNJA_BAD_CELL, {OF_ANOTHER_ROW, SECOND}},
-    {ROW_BYTE, 1, 16, 18, foreign, 8, ALDRYNJA_FOREIGN_ROW, {OF_ANOTHER_ROW, SECOND}},
-    {ROW_BYTE, 0, 16, 18, changed, 8, ALDRYNJA_TAKEN, {BOTH_CAME, SECOND}},
-    {AT_STATE, 2, 16, 18, first, 8, ALDRYNJA_TAKEN, {BOTH_CAME, SECOND}},
-    {AT_STATE, 2, 16, 18, foreign, 8, ALDRYNJA_FOREIGN_ROW, {BOTH_CAME, SECOND}},
-    {AT_STATE, 3, 16, 18, first, 8, ALDRYNJA_BAD_CELL, {STATE_3, SECOND}},
-    {AT_STATE, 3, 16, 18, foreign, 8, ALDRYNJA_FOREIGN_ROW, {STATE_3, SECOND}},
+    {STATE_BYTE, 0, 16, 18, foreign, 8, ALDRYNJA_FOREIGN_ROW, {0}},
+    {STATE_BYTE, 0, 16, 18, first, 8, ALDRYNJA_TAKEN, {1, 0, FIRST}},
+    {STATE_BYTE, 1, 16, 18, second, 8, ALDRYNJA_TAKEN, {1, 1, FIRST, SECOND}},
+    {STATE_BYTE, 1, 16, 18, first, 8, ALDRYNJA_TAKEN, {1, 1, FIRST, SECOND}},
+    {STATE_BYTE, 1, 16, 18, past, 8, ALDRYNJA_NO_SUCH_PLACE, {1, 1, FIRST, SECOND}},
+    {STATE_BYTE, 1, 16, 18, changed, 7, ALDRYNJA_BUFFER_LENGTH, {1, 1, FIRST, SECOND}},
+    {STATE_BYTE, 1, 16, 17, changed, 8, ALDRYNJA_BUFFER_LENGTH, {1, 1, FIRST, SECOND}},
+    {STATE_BYTE, 1, 15, 18, changed, 8, ALDRYNJA_BAD_TABLE, {1, 1, FIRST, SECOND}},
+    {STATE_BYTE, 1, 16, 18, foreign, 8, ALDRYNJA_FOREIGN_ROW, {1, 1, FIRST, SECOND}},
+    {STATE_BYTE, 1, 16, 18, foreign_past, 8, ALDRYNJA_NO_SUCH_PLACE, {1, 1, FIRST, SECOND}},
+    {STATE_BYTE, 1, 16, 18, foreign, 7, ALDRYNJA_BUFFER_LENGTH, {1, 1, FIRST, SECOND}},
+    {STATE_BYTE, 1, 16, 17, foreign, 8, ALDRYNJA_BUFFER_LENGTH, {1, 1, FIRST, SECOND}},
+    {STATE_BYTE, 1, 15, 18, foreign, 8, ALDRYNJA_BAD_TABLE, {1, 1, FIRST, SECOND}},
+    {ROW_BYTE, 1, 16, 18, first, 8, ALDRYNJA_BAD_CELL, {1, 1, OF_ANOTHER_ROW, SECOND}},
+    {ROW_BYTE, 1, 16, 18, foreign, 8, ALDRYNJA_FOREIGN_ROW, {1, 1, OF_ANOTHER_ROW, SECOND}},
+    {ROW_BYTE, 0, 16, 18, changed, 8, ALDRYNJA_TAKEN, {2, 1, ZEROS, SECOND}},
+    {STATE_BYTE, 2, 16, 18, first, 8, ALDRYNJA_TAKEN, {2, 1, ZEROS, SECOND}},
+    {STATE_BYTE, 2, 16, 18, foreign, 8, ALDRYNJA_FOREIGN_ROW, {2, 1, ZEROS, SECOND}},
+    {STATE_BYTE, 3, 16, 18, first, 8, ALDRYNJA_BAD_CELL, {3, 1, ZEROS, SECOND}},
+    {STATE_BYTE, 3, 16, 18, foreign, 8, ALDRYNJA_FOREIGN_ROW, {3, 1, ZEROS, SECOND}},
 };
 
 /* The table of the page of three places: the places 0 and 1 are of row 0, and place 2 is of row 1. */
@@ -80,6 +79,14 @@ void compare_case(const char *call, uint64_t number, uint64_t expected, uint64_t
         printf("%s, case %lu of the rules: expected %lu, got %lu\n", call, number, expected, got);
         exit(1);
     }
+}
+
+/* States first: 1 is the state of the held cell, and 0 that of every other one. The records come behind all states. */
+uint8_t held_alone(uint64_t cells, uint64_t cell, const uint8_t *record, uint64_t at)
+{
+    if (at < cells)
+        return at == cell;
+    return (at - cells) / RECORD_SIZE == cell ? record[(at - cells) % RECORD_SIZE] : 0;
 }
 
 static void compare_takes(void)
@@ -106,11 +113,9 @@ static void compare_rows_at(uint8_t place)
         uint8_t page[PLACES * CELL_SIZE] = {0};
         compare_case("aldrynja_take, a row", (uint64_t)row, is_taken ? ALDRYNJA_TAKEN : other_row,
                      aldrynja_take(three_places, sizeof three_places, 1, page, sizeof page, record, RECORD_SIZE));
-        for (uint64_t j = 0; j < sizeof page; j++) {
-            const int is_in_cell = is_taken && j / CELL_SIZE == place;
-            const uint8_t held = j % CELL_SIZE == AT_STATE ? 1 : record[j % CELL_SIZE - AT_RECORD];
-            compare_case("the page of aldrynja_take, a row", (uint64_t)row, is_in_cell ? held : 0, page[j]);
-        }
+        for (uint64_t j = 0; j < sizeof page; j++)
+            compare_case("the page of aldrynja_take, a row", (uint64_t)row,
+                         is_taken ? held_alone(PLACES, place, record, j) : 0, page[j]);
     }
 }
 
@@ -125,7 +130,7 @@ static void compare_selectors(void)
         table[ROW_SIZE + AT_SELECTOR] = (uint8_t)selector;
         compare_case("aldrynja_take, a selector", (uint64_t)selector, selector < 3 ? ALDRYNJA_TAKEN : ALDRYNJA_BAD_TABLE,
                      aldrynja_take(table, sizeof table, 1, page, sizeof page, first, sizeof first));
-        compare_case("the state of place 0, a selector", (uint64_t)selector, selector < 3, page[AT_STATE]);
+        compare_case("the state of place 0, a selector", (uint64_t)selector, selector < 3, page[STATE_BYTE]);
     }
 }
 
@@ -142,14 +147,14 @@ static void compare_totals(void)
                 const int is_bad = selector == 2 && less == 0;
                 compare_case("aldrynja_take, a total", i, is_bad ? ALDRYNJA_BAD_TABLE : ALDRYNJA_TAKEN,
                              aldrynja_take(table, sizeof table, 1, page, sizeof page, first, sizeof first));
-                compare_case("the state of place 0, a total", i, is_bad ? 0 : 1, page[AT_STATE]);
+                compare_case("the state of place 0, a total", i, is_bad ? 0 : 1, page[STATE_BYTE]);
             }
 }
 
 void compare_cases(void)
 {
-    compare_case("the version of the header", 0, 5, ALDRYNJA_VERSION);
-    compare_case("aldrynja_version", 0, 5, aldrynja_version());
+    compare_case("the version of the header", 0, 6, ALDRYNJA_VERSION);
+    compare_case("aldrynja_version", 0, 6, aldrynja_version());
     for (uint64_t i = 0; i < ENTRIES(counts); i++)
         compare_case("aldrynja_count", i, counts[i].n, aldrynja_count(counts[i].length, counts[i].radius));
     compare_takes();

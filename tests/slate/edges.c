@@ -1,5 +1,5 @@
-/* Buffers that end where memory ends: what is read or written behind one of them, as where a size is judged too late,
-   ends the call. See docs/RULES.md, "Refusal numbers" and "Books". */
+/* Takes with buffers that end where memory ends: what is read or written behind one of them, as where a size is judged
+   too late, ends the call. See docs/RULES.md, "Refusal numbers" and "Books". */
 
 #include "slate.h"
 
@@ -9,19 +9,17 @@
 
 enum { ROOM = 65536, EDGE_TABLES = 100, MOST_SIZE = 600, FEW_PLACES = 3, FEW_BOOKS = 2 };
 
-static struct page page;
+static struct page page = {.layout = STATES_FIRST};
 static uint8_t *table_end, *page_end, *record_end;
 
-/* The end of a room, behind which nothing can be read or written. */
-static uint8_t *end_of_room(void)
+uint8_t *end_of_room(void)
 {
     uint8_t *room = mmap(NULL, 2 * ROOM, PROT_READ | PROT_WRITE, MAP_PRIVATE | MAP_ANONYMOUS, -1, 0);
     own_figure("rooms that cannot be had", mprotect(room + ROOM, ROOM, PROT_NONE) != 0, 0);
     return room + ROOM;
 }
 
-/* So many bytes, up to the end. */
-static uint8_t *lend(uint8_t *to_end, const uint8_t *bytes, uint64_t size)
+uint8_t *lend(uint8_t *to_end, const uint8_t *bytes, uint64_t size)
 {
     uint8_t *lent = to_end - size;
     for (uint64_t i = 0; i < size; i++)
@@ -59,8 +57,10 @@ static void compare_at_edge(const struct case_of_page *of)
     uint8_t *lent_table = lend(table_end, table->bytes, table->size), *lent_page = lend(page_end, cell_at(&page, 0), page.size);
     uint8_t *lent_record = lend(record_end, record->bytes, record->length), before[CELL_SIZE];
     copy_named(&page, record, before);
+    lay_states_first(cell_at(&page, 0), lent_page, page.size / CELL_SIZE);
     const struct taking taking = {table, &page, record, before, take(table, &page, record)};
     call_take(&taking, lent_table, lent_page, lent_record);
+    keep_cell_by_cell(lent_page, page.size / CELL_SIZE);
     compare_bytes(&taking, "table", lent_table, table->bytes, table->size);
     compare_bytes(&taking, "page", lent_page, cell_at(&page, 0), page.size);
     compare_bytes(&taking, "record", lent_record, record->bytes, record->length);

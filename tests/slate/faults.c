@@ -8,7 +8,7 @@
 
 enum { BAD_TABLES = 200, FEW_BOOKS = 2 };
 
-static struct page page;
+static struct page page = {.layout = STATES_FIRST};
 
 uint64_t places_of_rows(const struct table *table)
 {

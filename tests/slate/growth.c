@@ -21,11 +21,10 @@ struct growing {
     uint64_t recent[RECENT]; /* the place fields that they were at */
 };
 
-static struct page page;
+static struct page page = {.layout = STATES_FIRST};
 static uint64_t tables, takes;
 
-/* A good table with so many places. */
-static struct table table_of(uint64_t places)
+struct table table_of(uint64_t places)
 {
     struct table table = good_table_by_chance();
     const uint64_t drawn = table.size / ROW_SIZE, rows = drawn < places ? drawn : places;
@@ -50,9 +49,9 @@ static struct table spoiled(const struct table *good)
     return table;
 }
 
-/* A number of books for pages of so many places: any, or mostly few where the pages would become large, since every
-   byte of them is compared after each take. */
-static uint64_t some_books(uint64_t places)
+/* Any number of books, or mostly few where the pages would become large, since every byte of them is compared after
+   each call. */
+uint64_t some_books(uint64_t places)
 {
     const uint64_t few = MOST_PLACES / places, is_any = few > MOST_BOOKS || chance_below(ONE_LARGE_IN) == 0;
     return 1 + chance_below(is_any ? MOST_BOOKS : few);

@@ -1,38 +1,22 @@
 /* One comparison of aldrynja_take with the rules in tests/second/rules/page.c. What the call is lent lies among guards,
-   and every byte of it is compared afterwards: only the page may change, and only as those rules say. */
+   and every byte of it is compared afterwards: only the page may change, and only as those rules say. Its pages are
+   kept states first. */
 
 #include "slate.h"
 
-#include <signal.h>
-#include <stdio.h>
-
-static const struct taking *volatile under_way;
-
-static void on_fault(int number)
+static void print_take(const void *taking)
 {
-    if (under_way)
-        print_taking("aldrynja_take", under_way);
-    else
-        printf("signal %d outside a comparison of aldrynja_take", number);
-    end("something is read or written that is not lent");
-}
-
-/* From here on a call that reads or writes where it may not is told like any other difference. Linux would end the
-   program with one of these two signals. */
-void tell_faults(void)
-{
-    signal(SIGBUS, on_fault);
-    signal(SIGSEGV, on_fault);
+    print_taking("aldrynja_take", taking);
 }
 
 /* The call, and what it gives. */
-void call_take(const struct taking *taking, const uint8_t *table, uint8_t *page, const uint8_t *record)
+void call_take(const struct taking *taking, const uint8_t *table, uint8_t *states_first, const uint8_t *record)
 {
     const uint32_t expected = (uint32_t)taking->expected.items[0];
-    under_way = taking;
-    const uint32_t got = aldrynja_take(table, taking->table->size, taking->page->books, page, taking->page->size,
-                                       record, taking->arrival->length);
-    under_way = 0;
+    begin_call(print_take, taking);
+    const uint32_t got = aldrynja_take(table, taking->table->size, taking->page->books, states_first,
+                                       taking->page->size, record, taking->arrival->length);
+    end_call();
     if (got != expected) {
         print_taking("aldrynja_take", taking);
         differ(as_answer(expected), as_answer(got));
@@ -40,8 +24,7 @@ void call_take(const struct taking *taking, const uint8_t *table, uint8_t *page,
     note_answer(expected);
 }
 
-/* Where a buffer is lent: a null pointer, or an address where nothing can be, only for one of no bytes. */
-static uint8_t *lent_at(enum pointer pointer, uint64_t size, uint8_t *room)
+uint8_t *lent_at(enum pointer pointer, uint64_t size, uint8_t *room)
 {
     if (pointer == TO_ROOM || size > 0)
         return room;

@@ -1,7 +1,7 @@
-/* The layout program in small: compares the three calls of aldrynja.h with docs/RULES.md by the rules of tests/second,
+/* The layout program in small: compares the five calls of aldrynja.h with docs/RULES.md by the rules of tests/second,
    and says what it compared. The first difference ends it with status 1. */
 
-#include "slate.h"
+#include "conversions.h"
 
 enum { SEED = 2026 };
 
@@ -18,6 +18,12 @@ int main(void)
     compare_edges();
     compare_cases();
     compare_book_cases();
+    compare_conversions();
+    compare_conversion_faults();
+    compare_conversion_edges();
+    compare_conversion_cases();
+    compare_old_pages();
     require_slate_kinds();
+    require_conversion_kinds();
     return 0;
 }

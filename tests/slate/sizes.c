@@ -8,17 +8,12 @@
 
 enum { MOST_SIZE = 600, FEW_PLACES = 3, FEW_BOOKS = 3, EMPTY_TABLES = 250, END_TABLES = 100 };
 
-/* A buffer as it must be, or with no bytes by each pointer. */
-enum { RIGHT, EMPTY, WAYS = 4 };
-static const enum pointer pointers[WAYS] = {[RIGHT] = TO_ROOM, [EMPTY] = TO_ROOM, TO_NULL, TO_NOTHING};
-
-/* The right size, and sizes that are right only where a number is cut, or that are at the ends. */
-enum { ENDS = 9 };
+const enum pointer pointers[WAYS] = {[RIGHT] = TO_ROOM, [EMPTY] = TO_ROOM, TO_NULL, TO_NOTHING};
 
 /* A right table and a wrong one, a right record and a wrong one, three sizes of a page. */
 enum { BOOK_SETS = 2 * 2 * 3 };
 
-static struct page page;
+static struct page page = {.layout = STATES_FIRST};
 
 /* Every size of good rows, the page as large as the whole ones would have it. */
 static void compare_table_sizes(void)
@@ -46,7 +41,7 @@ static void compare_empty(const struct case_of_page *right, int of_table, int of
     own_figure("refusal of a take with buffers of no bytes", compare_lending(&lending), wanted);
 }
 
-static void ends_of(uint64_t right, uint64_t *sizes)
+void ends_of(uint64_t right, uint64_t *sizes)
 {
     sizes[0] = right;
     sizes[1] = right + 65536;

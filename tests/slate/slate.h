@@ -1,5 +1,6 @@
-/* The parts of the layout program in small. It links the three calls of aldrynja.h and holds them to the rules of
-   tests/second, which are written from docs/RULES.md alone and share nothing with the calls. */
+/* The parts of the layout program in small. It links the five calls of aldrynja.h and holds them to the rules of
+   tests/second, which are written from docs/RULES.md alone and share nothing with the calls. The conversions have
+   conversions.h. */
 
 #ifndef SLATE_SLATE_H
 #define SLATE_SLATE_H
@@ -23,10 +24,23 @@ struct lending {
     enum pointer to_record;
 };
 
-/* lending.c: one comparison of aldrynja_take with the rules in tests/second/rules/page.c, whose refusal is returned.
-   The number of books is the one that the page tells. */
+/* under_way.c: from tell_faults on, a call that reads or writes where it may not is told by the words for what is under
+   way */
+typedef void print_call(const void *what);
 void tell_faults(void);
-void call_take(const struct taking *taking, const uint8_t *table, uint8_t *page, const uint8_t *record);
+void begin_call(print_call *print, const void *what);
+void end_call(void);
+
+/* layouts.c: a page of so many cells in the other layout, and back, in another room or in its own */
+void lay_states_first(const uint8_t *restrict cell_by_cell, uint8_t *restrict states_first, uint64_t cells);
+void lay_cell_by_cell(const uint8_t *restrict states_first, uint8_t *restrict cell_by_cell, uint64_t cells);
+void keep_cell_by_cell(uint8_t *page, uint64_t cells);
+
+/* lending.c: one comparison of aldrynja_take with the rules in tests/second/rules/page.c, whose refusal is returned.
+   The number of books is the one that the page tells. lent_at is where a buffer is lent: a null pointer, or an address
+   where nothing can be, only for one of no bytes. */
+void call_take(const struct taking *taking, const uint8_t *table, uint8_t *states_first, const uint8_t *record);
+uint8_t *lent_at(enum pointer pointer, uint64_t size, uint8_t *room);
 uint64_t compare_lending(const struct lending *lending);
 
 /* faults.c: the places of the whole rows of a table, good or bad, as far as the room for a book goes */
@@ -90,8 +104,24 @@ void require_slate_kinds(void);
 void note_book_kinds(const struct taking *taking);
 void require_each_book(uint64_t least);
 
-/* cases.c: the table of two places, of the whole case; and an error where a case of the rules is not as it must be */
+/* growth.c: a good table with so many places, and a number of books for its pages */
+struct table table_of(uint64_t places);
+uint64_t some_books(uint64_t places);
+
+/* sizes.c: the ways to lend a buffer, as it must be or with no bytes by each pointer; and the right size, with sizes
+   that are right only where a number is cut, or that are at the ends */
+enum { RIGHT, EMPTY, WAYS = 4, ENDS = 9 };
+extern const enum pointer pointers[WAYS];
+void ends_of(uint64_t right, uint64_t *sizes);
+
+/* edges.c: the end of a room, behind which nothing can be read or written; and so many bytes, up to that end */
+uint8_t *end_of_room(void);
+uint8_t *lend(uint8_t *to_end, const uint8_t *bytes, uint64_t size);
+
+/* cases.c: the table of two places, of the whole case; a byte of a page whose only held cell is one; and an error where
+   a case of the rules is not as it must be */
 extern const uint8_t two_places[ROW_SIZE];
+uint8_t held_alone(uint64_t cells, uint64_t cell, const uint8_t *record, uint64_t at);
 void compare_case(const char *call, uint64_t number, uint64_t expected, uint64_t got);
 
 /* The comparisons, each in the file that its name says */

@@ -1,5 +1,5 @@
 // The lines of the input, one after the other: each is written again, and if it is a case, it is run. The room is
-// lent to the cases. What a line says of books holds until the next one that does.
+// lent to the cases. What a line says of books, or of the layout, holds until the next one that does.
 use crate::books;
 use crate::books::Shelf;
 use crate::checks;
@@ -37,7 +37,7 @@ fn line_end(text: &[u8], from: usize) -> usize
     to
 }
 
-// Writes and runs a line; the books that are meant after it.
+// Writes and runs a line; the books and the layout that are meant after it.
 fn line(shelf: Shelf, line: &[u8], room: &mut [u8]) -> Shelf {
     output::words(line);
     let mut numbers = [0; 128];
@@ -47,11 +47,14 @@ fn line(shelf: Shelf, line: &[u8], room: &mut [u8]) -> Shelf {
     next
 }
 
-// The first letter of a line tells the case, or that it is one of books; any other line is a remark.
+// The first letter of a line tells the case, or that it is one of books or of a layout; any other line is a remark.
 fn case(shelf: Shelf, line: &[u8], numbers: &[u64], room: &mut [u8]) -> Shelf {
     let letter = input::first(line);
     if letter == b'B' {
-        return books::told(numbers);
+        return books::told(shelf, numbers);
+    }
+    if letter == b'L' {
+        return books::laid(shelf, numbers);
     }
     match letter {
         b'c' => shells::count(numbers),
@@ -63,7 +66,7 @@ fn case(shelf: Shelf, line: &[u8], numbers: &[u64], room: &mut [u8]) -> Shelf {
         b'r' => checks::place(numbers, room),
         b'n' => coefficients::nearest(numbers),
         b'q' | b'S' => coefficients::run(letter, shelf, numbers, room),
-        b'T' | b'C' | b'R' | b'V' | b'A' => pages::run(letter, shelf, numbers, room),
+        b'T' | b'C' | b'R' | b'V' | b'A' | b'M' => pages::run(letter, shelf, numbers, room),
         _ => (),
     }
     shelf

@@ -1,13 +1,17 @@
-// The cases of the calls of the page. A line has the mode and two numbers for the call, then the size and the bytes of
-// the page, the size and the bytes of what arrives, and a table. The books are those that were told before. A buffer
-// for a point is lent full of nines.
+// The cases of the calls of the page and of the conversions. A line has the mode and two numbers for the call, then the
+// size and the bytes of the page, the size and the bytes of what arrives, and a table. The books and the layout are
+// those that were told before. A buffer for a point is lent full of nines.
 use crate::books::Shelf;
 use crate::checks;
 use crate::coefficients::bytes;
 use crate::indices::coordinates;
+use conversion::Conversion;
+use conversion::to_cell_by_cell;
+use conversion::to_states_first;
 use floats::inner::is_negative;
 use floats::inner::is_unusable;
 use floats::inner::nearest_whole;
+use layout::Layout;
 use script::input::number;
 use script::output;
 ghost use Prim.Native.Nat.{_<_};
@@ -76,7 +80,7 @@ fn with_table(
     numbers: &[u64],
     first: usize,
     page: &mut [u8],
-    arrived: &[u8],
+    arrived: &mut [u8],
     room: &mut [u8],
 ) {
     let size = number(numbers, first) as usize;
@@ -101,7 +105,7 @@ fn made(
     numbers: &[u64],
     first: usize,
     page: &mut [u8],
-    arrived: &[u8],
+    arrived: &mut [u8],
     table: &mut [u8],
 ) {
     checks::make(table, numbers, first);
@@ -113,6 +117,7 @@ fn made(
         b'C' => collect(shelf, table, page, arrived),
         b'R' => read(mode, shelf, table, page, a, b),
         b'V' => value(mode, shelf, table, page, a, b),
+        b'M' => move_page(shelf, table, page, arrived),
         _ => tally(mode, shelf, table, page),
     }
 }
@@ -130,7 +135,8 @@ fn copy(numbers: &[u64], first: usize, out: &mut [u8])
 
 // Take 0 0 0: what the call says, and the page then.
 fn take(shelf: Shelf, table: &[u8], page: &mut [u8], arrived: &[u8]) {
-    match page::take(table, shelf.books, page, arrived) {
+    let layout = shelf.layout;
+    match page::take(table, shelf.books, layout, page, arrived) {
         Arrival::Taken => output::said(0),
         Arrival::Refused(refusal) => output::refused(refusal),
     }
@@ -140,9 +146,29 @@ fn take(shelf: Shelf, table: &[u8], page: &mut [u8], arrived: &[u8]) {
 
 // Collect 0 0 0: the number of refused takes, and the page then.
 fn collect(shelf: Shelf, table: &[u8], page: &mut [u8], arrived: &[u8]) {
-    output::said(page::collect(table, shelf.books, page, arrived) as u64);
+    let layout = shelf.layout;
+    output::said(page::collect(table, shelf.books, layout, page, arrived) as u64);
     output::colon();
     bytes(page);
+}
+
+// Move 0 0 0: the page from its layout into the other one; what the call says, and the other page then. What arrives is
+// what the other page holds before.
+fn move_page(shelf: Shelf, table: &[u8], page: &[u8], other: &mut [u8]) {
+    match moved(shelf, table, page, other) {
+        Conversion::Converted => output::said(0),
+        Conversion::Refused(refusal) => output::refused(refusal),
+    }
+    output::colon();
+    bytes(other);
+}
+
+fn moved(shelf: Shelf, table: &[u8], page: &[u8], other: &mut [u8]) -> Conversion {
+    let layout = shelf.layout;
+    match layout {
+        Layout::CellByCell => to_states_first(table, shelf.books, page, other),
+        Layout::StatesFirst => to_cell_by_cell(table, shelf.books, page, other),
+    }
 }
 
 // Read M P B: what the call says in mode M of place P with a buffer of B coordinates, and what these are then.
@@ -154,7 +180,17 @@ fn read(mode: usize, shelf: Shelf, table: &[u8], page: &[u8], place: usize, size
 }
 
 fn read_into(mode: usize, shelf: Shelf, table: &[u8], page: &[u8], place: usize, out: &mut [i32]) {
-    match page::read(Mode(mode), table, shelf.books, shelf.book, page, place, out) {
+    let layout = shelf.layout;
+    match page::read(
+        Mode(mode),
+        table,
+        shelf.books,
+        shelf.book,
+        layout,
+        page,
+        place,
+        out,
+    ) {
         Reading::Answered(answer) => shown(answer),
         Reading::Refused(refusal) => output::refused(refusal),
     }
@@ -193,11 +229,13 @@ fn unreadable(reason: Reason) {
 
 // Value M P I: what the call says in mode M of coordinate I of place P.
 fn value(mode: usize, shelf: Shelf, table: &[u8], page: &[u8], place: usize, coordinate: usize) {
+    let layout = shelf.layout;
     match page::coefficient(
         Mode(mode),
         table,
         shelf.books,
         shelf.book,
+        layout,
         page,
         place,
         coordinate,
@@ -234,7 +272,8 @@ fn scaled(v: f32) {
 
 // Answers M 0 0: the five counts of the tally in mode M.
 fn tally(mode: usize, shelf: Shelf, table: &[u8], page: &[u8]) {
-    match page::tally(Mode(mode), table, shelf.books, shelf.book, page) {
+    let layout = shelf.layout;
+    match page::tally(Mode(mode), table, shelf.books, shelf.book, layout, page) {
         Tallied::Counted(counts) => {
             output::answered(counts.sound as u64);
             output::next(counts.mended as u64);

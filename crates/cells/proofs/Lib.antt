@@ -1,3 +1,2 @@
 pub mod States
-pub mod Judging
-pub mod Shown
+pub mod Spots

@@ -1,5 +1,5 @@
--- What goes by the state of a cell, as the code tests it: refusal 12, the page rule and the answer.
-use Prim.Native.Nat.{ℕ, zero, suc, _≤_, _<_}
+-- What goes by the state of a cell, as the code tests it: refusal 12 and the page rule.
+use Prim.Native.Nat.{ℕ, _≤_, _<_}
 use mathlib.Core.Bool.{or-false, true, false, not}
 use mathlib.Core.List.{List}
 use mathlib.Core.Path.{_≡_, refl, sym}
@@ -8,15 +8,8 @@ use borrow.Author.Tests.{lt-ltb, le-ltb, eq-eqb, ne-eqb}
 use Rattle.answers.specs.Checks.{pick}
 use Rattle.records.specs.Record.{bookIn, placeIn, rowIn, sameBytes}
 use Rattle.layout.specs.Layout.{Cell}
-use Rattle.rules.specs.Judging.{judgeRecord, judge}
-use Rattle.rules.specs.Taking.{contestedCell, byState, badCell, takeCell}
-use Rattle.rules.specs.declared.Judged.the-variants as judged
-
--- a state that is neither 0 nor 1
-by-state-else : {A : Type 0} (n : ℕ) (empty held contested : A) → (n ≡ 0 → ⊥) → (n ≡ 1 → ⊥) → byState n empty held contested ≡ contested
-by-state-else zero empty held contested a b = absurd (a refl)
-by-state-else (suc zero) empty held contested a b = absurd (b refl)
-by-state-else (suc (suc n)) empty held contested a b = refl
+use Rattle.laws.proofs.CellRule.{by-state-else}
+use Rattle.rules.specs.Taking.{contestedCell, badCell, takeCell}
 
 module _ (book p r : ℕ) (c : Cell) where
   pub bad-above : 2 < c .state → true ≡ badCell book p r c
@@ -43,16 +36,3 @@ module _ (book p r : ℕ) (c : Cell) where
 pub takes-else : (x : List ℕ) (c : Cell) → (c .state ≡ 0 → ⊥) → (c .state ≡ 1 → ⊥) → c ≡ takeCell x c
 unfolding takeCell
 takes-else x c a b = sym (by-state-else (c .state) _ (pick (sameBytes (c .bytes) x) c contestedCell) c a b)
-
-module _ (mode : ℕ) (row : List ℕ) (c : Cell) where
-  pub judges-missing : c .state ≡ 0 → judged.Missing ≡ judge mode row c
-  unfolding judge
-  judges-missing h = rw h refl
-
-  pub judges-held : c .state ≡ 1 → judgeRecord mode row (c .bytes) ≡ judge mode row c
-  unfolding judge
-  judges-held h = rw h refl
-
-  pub judges-contested : (c .state ≡ 0 → ⊥) → (c .state ≡ 1 → ⊥) → judged.Contested ≡ judge mode row c
-  unfolding judge
-  judges-contested a b = sym (by-state-else (c .state) judged.Missing (judgeRecord mode row (c .bytes)) judged.Contested a b)

@@ -1,2 +1,1 @@
-pub mod Seen
 pub mod Spots

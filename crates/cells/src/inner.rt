@@ -1,4 +1,3 @@
 // What the calls of the page do with one cell.
-pub mod judging;
 pub mod rule;
 pub mod spot;

@@ -14,9 +14,9 @@ use Rattle.tables.proofs.GoodRow.{row-lawful}
 use Rattle.rules.specs.Taking.{cellFor}
 use Rattle.rules.specs.Judging.{judgeAt}
 use Rattle.rules.specs.Tallying.{wholeChecks, tallyRest, countOf, countsOf, answerAt, tallyOf, tallySays}
-use Rattle.rules.proofs.Shows.{judge-shows}
-use Rattle.rules.proofs.Counts.{tally-sum}
-use Rattle.rules.proofs.Pages.{page-right, whole-passes}
+use Rattle.laws.proofs.Shows.{judge-shows}
+use Rattle.laws.proofs.Counts.{tally-sum}
+use Rattle.laws.proofs.Pages.{page-right, whole-passes}
 use Rattle.channel.specs.Demand2.{Answers, Tallies}
 use Rattle.channel.proofs.Refusing.{says-through}
 use Rattle.channel.proofs.Calls.{demand-1}

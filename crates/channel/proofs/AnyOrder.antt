@@ -3,7 +3,7 @@ use Prim.Native.Nat.{ℕ}
 use mathlib.Core.Path.{_≡_, refl, ap, ap₂, _∙_}
 use mathlib.Core.List.{List, List·Permᴰ, List·Permᴰ·nil, List·Permᴰ·cons, List·Permᴰ·swap, List·Permᴰ·trans}
 use Rattle.rules.specs.Taking.{Received, arrive, after}
-use Rattle.rules.proofs.EitherOrder.{arrive-two}
+use Rattle.laws.proofs.EitherOrder.{arrive-two}
 use Rattle.channel.specs.Demand3.{AnyOrder}
 
 module _ (t : List ℕ) (books : ℕ) where

@@ -22,11 +22,11 @@ use Rattle.rules.specs.Modes.{modeCheck}
 use Rattle.rules.specs.Reading.{told, carriedBy, readRest, coefficientRest, lookChecks}
 use Rattle.rules.specs.Taking.{cellFor, badCell, cellCheck, cellCheckAt, pageCheck, pageChecks, foreignCheck, ownCellCheck, takeRest, takeLeaves, takeSays, Received, empty, newPage, grown}
 use Rattle.rules.specs.Tallying.{answerAt, tallyOf, tallyRest, tallySays, wholeChecks}
-use Rattle.rules.proofs.Arrivals.{taken-cell, taken-size, shut-leaves}
-use Rattle.rules.proofs.CellAfter.{cellAfter, cell-after, after-ready, passes-by}
-use Rattle.rules.proofs.Claims.{Claims, is-claim, no-claim, nextCell}
-use Rattle.rules.proofs.Pages.{Sized, page-size, ready-or-shut, whole-page, look-shared, look-place, look-size}
-use Rattle.rules.proofs.Runs.{shut-after}
+use Rattle.laws.proofs.Arrivals.{taken-cell, taken-size, shut-leaves}
+use Rattle.laws.proofs.CellAfter.{cellAfter, cell-after, after-ready, passes-by}
+use Rattle.laws.proofs.Claims.{Claims, is-claim, no-claim, nextCell}
+use Rattle.laws.proofs.Pages.{Sized, page-size, ready-or-shut, whole-page, look-shared, look-place, look-size}
+use Rattle.laws.proofs.Runs.{shut-after}
 use Rattle.reporting.specs.Calls.{noRoom, startingWith, linesFit, linesRest, linesText, linesAnswer, linesSays, linesLeaves}
 use Rattle.reporting.specs.Listing.{lineAt, lineIn}
 use Rattle.channel.specs.Apart.{claimsIn, claimingIn, bookIs, LooksAtItsOwn, SameBook, SameAnswers, Apart}

@@ -15,7 +15,7 @@ use Rattle.records.specs.Record.{Holds}
 use Rattle.rules.specs.Judging.{indexNames, judgeIn, judge, NamesPoint}
 use Rattle.rules.specs.Taking.{heldCell, grown}
 use Rattle.rules.specs.declared.Judged.the-variants as judged
-use Rattle.cells.proofs.Judging.{codeword-sound, record-judged}
+use Rattle.judging.proofs.Judging.{codeword-sound, record-judged}
 use Rattle.channel.specs.Demand3.{OnlyCame, SoundWith}
 use Rattle.channel.proofs.Values.{exact-shown}
 use Rattle.channel.proofs.Reading.{grown-reads}

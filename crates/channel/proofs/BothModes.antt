@@ -22,9 +22,9 @@ use Rattle.rules.specs.TwoModes.{overflows, TwoModes}
 use Rattle.rules.specs.declared.Judged.{Judged}
 use Rattle.rules.specs.declared.Judged.the-variants as judged
 use Rattle.rules.specs.declared.Reason.the-variants as reason
-use Rattle.rules.proofs.Counts.{none-counted}
-use Rattle.rules.proofs.Reasons.{answer-in}
-use Rattle.rules.proofs.TwoModes.{two-modes}
+use Rattle.laws.proofs.Counts.{none-counted}
+use Rattle.laws.proofs.Reasons.{answer-in}
+use Rattle.laws.proofs.TwoModes.{two-modes}
 use Rattle.reporting.specs.Listing.{lineOf}
 use Rattle.wording.specs.Text.{placeText}
 use Rattle.channel.specs.BothModes.{soundSays, emptySays, OverflowsAt, distanceAt, SaysApart, BothModes}

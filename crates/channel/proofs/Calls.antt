@@ -20,6 +20,9 @@ use Rattle.runs.specs.Sending.{recordsOf, sendChecks, sendSays}
 use Rattle.sending.specs.Meanings.{sendMeaning}
 use Rattle.sending.proofs.OneToOne.{send-one-to-one}
 use Rattle.rules.specs.Taking.{takeChecks, takeInto, takeSays}
+use Rattle.conversion.specs.Meanings.{conversionMeaning}
+use Rattle.conversion.proofs.OneToOne.{conversion-one-to-one}
+use Rattle.rules.specs.Layouts.{turned, convertChecks, convertSays}
 use Rattle.rules.specs.Judging.{judgeAt}
 use Rattle.rules.specs.Reading.{told, pointAt, carriedBy, readChecks, readSays, coefficientChecks}
 use Rattle.rules.specs.Tallying.{tallyChecks, tallyOf, tallySays}
@@ -28,8 +31,8 @@ use Rattle.page.proofs.OneToOne.{take-one-to-one, read-one-to-one, coefficient-
 use Rattle.reporting.specs.Calls.{startingWith, noRoom, linesFit, linesChecks, linesText, linesSays, lineSays}
 use Rattle.report.specs.Meanings.{listedMeaning, linedMeaning}
 use Rattle.report.proofs.OneToOne.{listed-one-to-one, lined-one-to-one}
-use Rattle.channel.specs.Demand1.{withTable, withBooks, withMode, pointConditions, quantizeConditions, sendConditions, takeConditions, readConditions, coefficientConditions, tallyConditions, linesConditions, Determined, Demand1}
-use Rattle.channel.proofs.Conditions.{alike, point-alike, check-alike, quantize-alike, send-alike, take-alike, read-alike, coefficient-alike, tally-alike, lines-alike}
+use Rattle.channel.specs.Demand1.{withTable, withBooks, withMode, pointConditions, quantizeConditions, sendConditions, takeConditions, readConditions, coefficientConditions, tallyConditions, linesConditions, convertConditions, Determined, Demand1}
+use Rattle.channel.proofs.Conditions.{alike, point-alike, check-alike, quantize-alike, send-alike, take-alike, read-alike, coefficient-alike, tally-alike, lines-alike, convert-alike}
 use Rattle.channel.proofs.Refusing.{refusing, unchanged}
 
 determined : {A : Type 0} (meaningOf : A → List ℕ) (says : List ℕ) → ((r r′ : A) → meaningOf r ≡ meaningOf r′ → r ≡ r′) → Determined meaningOf says
@@ -80,6 +83,10 @@ demand-1 = record {
   coefficient-determined = λ mode t books book pg p i r r′ a b c d. coefficient-one-to-one r r′ (a ∙ sym c) (b ∙ sym d);
   tally = λ mode t books book pg. refusing (tallyOf mode t pg book) (tallyChecks mode t books book pg) (withMode mode t books (tallyConditions t books book pg)) refl refl (tally-alike t books mode book pg);
   tally-determined = λ mode t books book pg. determined tallyMeaning (tallySays mode t books book pg) tally-one-to-one;
+  convert = λ t books pg held.
+      refusing [] (convertChecks t books pg held) (withBooks t books (convertConditions t books pg held)) refl refl (convert-alike t books pg held);
+  convert-unchanged = λ from to t books pg held. unchanged [] (convertChecks t books pg held) (turned from to t books pg) held;
+  convert-determined = λ t books pg held. determined conversionMeaning (convertSays t books pg held) conversion-one-to-one;
   lines = λ mode t books book pg p held.
       refusing (written mode t pg book p (length held)) (linesChecks mode t books book pg p (length held)) (withMode mode t books (linesConditions t books book pg p (length held))) refl refl
       (lines-alike t books mode book pg p (length held));

@@ -20,11 +20,12 @@ use Rattle.runs.specs.Run.{coordinatesIn}
 use Rattle.runs.specs.Sending.{runChecks, recordsLength, sendRest, sendChecks}
 use Rattle.runs.proofs.Judging.{run-of-11}
 use Rattle.rules.specs.Modes.{modeCheck}
+use Rattle.rules.specs.Layouts.{convertChecks}
 use Rattle.rules.specs.Taking.{cellFor, pageCheck, foreignCheck, cellCheck, ownCellCheck, cellCheckAt, takeRest, takeChecks}
 use Rattle.rules.specs.Reading.{readRest, readChecks, coefficientRest, coefficientChecks}
 use Rattle.rules.specs.Tallying.{tallyRest, tallyChecks}
 use Rattle.reporting.specs.Calls.{noRoom, linesFit, linesRest, linesChecks}
-use Rattle.channel.specs.Demand1.{condition, withTable, withBooks, withMode, noPlace, pointConditions, quantizeConditions, sendConditions, takeConditions, readConditions, coefficientConditions, tallyConditions, linesConditions}
+use Rattle.channel.specs.Demand1.{condition, withTable, withBooks, withMode, noPlace, pointConditions, quantizeConditions, sendConditions, takeConditions, convertConditions, readConditions, coefficientConditions, tallyConditions, linesConditions}
 
 -- the same number is said by both, whatever the answer
 pub record Alike (cs ds : List Check) : Type 0 where
@@ -121,6 +122,11 @@ module _ (t : List ℕ) where
         by-books t books (paged pg (takeRest t books pg x))
         (grouped 4 (pageCheck t books pg ∷ recordCheck (length x) ∷ []) (refl, (refl, tt))
         (by-place t books (bookIn x) (placeIn x) (alike (foreignCheck t x ∷ ownCellCheck t pg x ∷ []))))
+
+    pub convert-alike : (pg held : List ℕ) → Alike (convertChecks t books pg held) (withBooks t books (convertConditions t books pg held))
+    convert-alike pg held =
+        by-books t books (paged pg (pageCheck t books held ∷ []))
+        (grouped-last 4 (pageCheck t books pg ∷ pageCheck t books held ∷ []) (refl, (refl, tt)))
 
     module _ (mode book : ℕ) (pg : List ℕ) where
       pub read-alike : (p b : ℕ) → Alike (readChecks mode t books book pg p b) (withMode mode t books (readConditions t books book pg p b))

@@ -18,10 +18,10 @@ use Rattle.rules.specs.Reading.{lookChecks, told}
 use Rattle.rules.specs.declared.Judged.{Judged}
 use Rattle.rules.specs.declared.Judged.the-variants as judged
 use Rattle.rules.specs.declared.Reason.the-variants as reason
-use Rattle.rules.proofs.Arrivals.{shut-leaves}
-use Rattle.rules.proofs.Claims.{claim-is, none-leaves}
-use Rattle.rules.proofs.Pages.{ready-or-shut}
-use Rattle.rules.proofs.Reasons.{answer-in, no-nine}
+use Rattle.laws.proofs.Arrivals.{shut-leaves}
+use Rattle.laws.proofs.Claims.{claim-is, none-leaves}
+use Rattle.laws.proofs.Pages.{ready-or-shut}
+use Rattle.laws.proofs.Reasons.{answer-in, no-nine}
 use Rattle.wording.specs.Text.{digitsOf, decimal, placeText}
 use Rattle.reporting.specs.Listing.{lineOf}
 use Rattle.channel.specs.ForeignRows.{TellsNine, UnreadableFor, ForeignRows}

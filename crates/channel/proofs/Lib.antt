@@ -23,5 +23,6 @@ pub mod Answers
 pub mod BothModes
 pub mod Behind
 pub mod Apart
+pub mod Layouts
 pub mod Witness
 pub mod Demands

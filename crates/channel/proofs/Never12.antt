@@ -14,7 +14,7 @@ use Rattle.tables.specs.BookNumbers.{booksOutside, noSuchBook, bookCheck, GoodB
 use Rattle.tables.specs.Table.{placesIn, tableChecks, placeCheck, noSuchPlace}
 use Rattle.records.specs.Record.{bookIn, placeIn}
 use Rattle.rules.specs.Taking.{badAt, cellCheckAt, grown}
-use Rattle.rules.proofs.Grown.{grown-not-bad}
+use Rattle.laws.proofs.Grown.{grown-not-bad}
 use Rattle.channel.specs.Demand3.{Never12}
 use Rattle.channel.proofs.Calls.{demand-1}
 

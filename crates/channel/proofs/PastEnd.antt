@@ -24,8 +24,8 @@ use Rattle.rules.specs.Taking.{cellFor}
 use Rattle.rules.specs.declared.Judged.{Judged}
 use Rattle.rules.specs.declared.Judged.the-variants as judged
 use Rattle.rules.specs.declared.Reason.the-variants as reason
-use Rattle.rules.proofs.Pages.{look-place}
-use Rattle.rules.proofs.Shows.{judge-shows, judge-tells}
+use Rattle.laws.proofs.Pages.{look-place}
+use Rattle.laws.proofs.Shows.{judge-shows, judge-tells}
 use Rattle.wording.specs.Text.{placeText}
 use Rattle.reporting.specs.Listing.{lineOf, lineAt}
 use Rattle.channel.specs.PastEnd.{mendedSays, pastSays, TellsReceived, TellsPast, PastEnd}

@@ -19,8 +19,8 @@ use Rattle.rules.specs.Taking.{cellFor, badAt, grown}
 use Rattle.rules.specs.Judging.{judgeAt, shown}
 use Rattle.rules.specs.Reading.{lookChecks, told, carried, carriedBy, pointAt, readRest, readChecks, coefficientRest, coefficientChecks}
 use Rattle.rules.specs.declared.Judged.{Judged}
-use Rattle.rules.proofs.Grown.{grown-ready, grown-not-bad}
-use Rattle.rules.proofs.Pages.{page-size, look-numbered, look-passes}
+use Rattle.laws.proofs.Grown.{grown-ready, grown-not-bad}
+use Rattle.laws.proofs.Pages.{page-size, look-numbered, look-passes}
 use Rattle.channel.specs.Demand3.{Reads, scaled}
 
 -- either reader looks at the place first, and then makes its own checks; what is answered passed all of them

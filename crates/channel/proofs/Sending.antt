@@ -24,9 +24,9 @@ use Rattle.rules.specs.declared.Judged.the-variants as judged
 use Rattle.rules.specs.Modes.{mending}
 use Rattle.rules.specs.Taking.{empty, after, grown, partsOf, AllEqual}
 use Rattle.rules.specs.Tallying.{answerAt, tallyOf}
-use Rattle.rules.proofs.Claims.{ClaimsOwn, claim-is}
-use Rattle.rules.proofs.Counts.{first-alone}
-use Rattle.rules.proofs.Grown.{grown-takes-all}
+use Rattle.laws.proofs.Claims.{ClaimsOwn, claim-is}
+use Rattle.laws.proofs.Counts.{first-alone}
+use Rattle.laws.proofs.Grown.{grown-takes-all}
 use Rattle.wording.specs.Text.{lastText}
 use Rattle.reporting.specs.Listing.{lineAt, linesFrom, lastLine, listed}
 use Rattle.channel.specs.Demand3.{SoundWith}

@@ -11,7 +11,7 @@ use Rattle.buffers.specs.Joined.{joined}
 use Rattle.buffers.proofs.Joining.{joined-none}
 use Rattle.records.specs.Record.{recordLength}
 use Rattle.rules.specs.Taking.{partsOf}
-use Rattle.rules.proofs.Runs.{parts-next, parts-none}
+use Rattle.laws.proofs.Runs.{parts-next, parts-none}
 
 module _ (f : ℕ → List ℕ) (eight : (i : ℕ) → length (f i) ≡ recordLength) where
   no-parts : (p : ℕ) → partsOf (joined f p 0) ≡ []

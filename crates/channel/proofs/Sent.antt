@@ -24,7 +24,7 @@ use Rattle.coding.specs.Coded.{radiusNumberFor, radiusFor, pointFor}
 use Rattle.quantizer.specs.Calls.{recordFor}
 use Rattle.quantizer.proofs.Written.{number-in, point-in, fields-held}
 use Rattle.rules.specs.Taking.{grown, AllEqual}
-use Rattle.rules.proofs.Claims.{is-claim}
+use Rattle.laws.proofs.Claims.{is-claim}
 use Rattle.channel.specs.Demand3.{OnlyCame, SoundWith, ShownAsSent, withCodeword, OnlySignsChange}
 use Rattle.channel.proofs.Accepted.{Accepted, accepts}
 use Rattle.channel.proofs.Arrived.{arrived-sound}

@@ -16,7 +16,7 @@ use Rattle.rules.specs.Modes.{noSuchMode}
 use Rattle.rules.specs.Taking.{heldCell, grown}
 use Rattle.rules.specs.Judging.{judge, judgeAt, answerNumber, shown}
 use Rattle.rules.specs.Reading.{lookChecks, told}
-use Rattle.rules.proofs.Pages.{look-shared, look-place}
+use Rattle.laws.proofs.Pages.{look-shared, look-place}
 use Rattle.channel.specs.Demand3.{WhatCame, ShowsPoint, OnlySent, ReadOnlySent, ValuedOnlySent}
 use Rattle.channel.proofs.Reading.{reader-told, readBehind, valueBehind, read-numbered, value-numbered, grown-reads}
 use Rattle.channel.proofs.ThreeCases.{which-came, nobody-cell, equal-cell, differ-cell}

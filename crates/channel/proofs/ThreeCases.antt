@@ -12,14 +12,15 @@ use Rattle.tables.specs.Table.{placesIn, rowFor, lengthFor}
 use Rattle.records.specs.Record.{sameBytes}
 use Rattle.records.proofs.Same.{bytes-same, differ-bytes}
 use Rattle.layout.specs.Layout.{Cell, cellsOf, emptyCell}
+use Rattle.layout.specs.declared.Layout.the-variants as layouts
 use Rattle.layout.proofs.Cells.{empty-cell}
 use Rattle.rules.specs.Taking.{claims, cellNumber, cellFor, heldCell, contestedCell, empty, grown, Nobody}
 use Rattle.rules.specs.Judging.{judge}
 use Rattle.rules.specs.declared.Judged.the-variants as judged
-use Rattle.rules.proofs.CellAfter.{cellAfter, cell-after}
-use Rattle.rules.proofs.CellAfter as laws
-use Rattle.rules.proofs.Claims.{cell-in}
-use Rattle.rules.proofs.Grown.{empty-ready}
+use Rattle.laws.proofs.CellAfter.{cellAfter, cell-after}
+use Rattle.laws.proofs.CellAfter as laws
+use Rattle.laws.proofs.Claims.{cell-in}
+use Rattle.laws.proofs.Grown.{empty-ready}
 use Rattle.channel.specs.Demand3.{OnlyCame, TwoDiffer, WhatCame, CellTold}
 use Rattle.channel.proofs.Reading.{grown-reads}
 
@@ -111,7 +112,7 @@ module _ (t : List ℕ) (books : ℕ) (good : GoodBooks t books) (xs : List (Lis
   cell-of : cellFor t (grown t books xs) book p ≡ cellAfter t books book p emptyCell xs
   cell-of =
       cell-after t books (empty t books) xs (empty-ready t books good) book p k h
-      ∙ ap (λ (c : Cell). cellAfter t books book p c xs) (empty-cell (cellsOf (placesIn t) books) (cellNumber t book p) (cell-in t books book p k h))
+      ∙ ap (λ (c : Cell). cellAfter t books book p c xs) (empty-cell layouts.CellByCell (cellsOf (placesIn t) books) (cellNumber t book p) (cell-in t books book p k h))
 
   pub nobody-cell : Nobody t books xs book p → cellFor t (grown t books xs) book p ≡ emptyCell
   nobody-cell none = cell-of ∙ laws.nobody t books book p xs emptyCell none

@@ -28,7 +28,7 @@ use Rattle.records.specs.Record.{recordOf, sameBytes}
 use Rattle.records.proofs.Same.{bytes-same}
 use Rattle.coefficients.specs.Example.{vector}
 use Rattle.coefficients.specs.Radius.{chosenRadiusNumber}
-use Rattle.layout.specs.Layout.{stateAt, recordAt, setCell}
+use Rattle.layout.specs.Layout.{stateFrom, recordFrom, stored}
 use Rattle.rules.specs.Example.{of, first, other}
 use Rattle.rules.specs.Taking.{claims, badCell, takeCell, arrive, after, grown, AllEqual}
 use Rattle.rules.specs.Judging.{judgeCodeword, judgeRecord, judge}
@@ -68,7 +68,7 @@ each-sent zero (suc (suc p)) k h = absurd (omega arith)
 each-sent (suc b) p k h = absurd (omega arith)
 
 pub witness : Witness
-unfolding onlyClaims claims toBits round lt N binomial D S B sumAfter rangeSize rangeStart fieldTotal distance width bitsFrom patternIndex shapeOffset shapeIndex signIndex indexFrom productIndex rangeFrom rangeOf patternOf firstAmong leftAmong shapeOf signsOf pointFrom pointWithin productPoint namesWithin productNames over256 nearestWhole ofPattern unitsOf unusableCoefficient negative byteOf selectedBy enumerationOf badRadius badRadii badRow rowAt placesBefore rowsBefore firstBest largest give shared recordOf chosenRadiusNumber stateAt recordAt setCell badCell takeCell arrive after judgeCodeword judgeRecord judge
+unfolding onlyClaims claims toBits round lt N binomial D S B sumAfter rangeSize rangeStart fieldTotal distance width bitsFrom patternIndex shapeOffset shapeIndex signIndex indexFrom productIndex rangeFrom rangeOf patternOf firstAmong leftAmong shapeOf signsOf pointFrom pointWithin productPoint namesWithin productNames over256 nearestWhole ofPattern unitsOf unusableCoefficient negative byteOf selectedBy enumerationOf badRadius badRadii badRow rowAt placesBefore rowsBefore firstBest largest give shared recordOf chosenRadiusNumber stateFrom recordFrom stored badCell takeCell arrive after judgeCodeword judgeRecord judge
 witness = record {
   is-sent = record { lent = replicate 8 9; accepted = refl; written = refl; point = refl };
   is-read = record {

@@ -27,10 +27,13 @@ use Rattle.quantizer.specs.Calls.{quantizeChecks, quantizeLeaves, quantizeMeani
 use Rattle.runs.specs.Run.{coordinatesIn}
 use Rattle.runs.specs.Sending.{runChecks, recordsLength, sendChecks, sendSays, sendLeaves}
 use Rattle.sending.specs.Meanings.{sendMeaning}
+use Rattle.layout.specs.declared.Layout.{Layout}
+use Rattle.rules.specs.Layouts.{convertChecks, convertSays, convertLeaves}
 use Rattle.rules.specs.Modes.{modeCheck}
 use Rattle.rules.specs.Taking.{cellFor, pageCheck, foreignCheck, cellCheck, ownCellCheck, cellCheckAt, takeChecks, takeSays, takeLeaves}
 use Rattle.rules.specs.Reading.{readChecks, readSays, readLeaves, coordinateCheck, coefficientChecks, coefficientSays, coefficientCarries}
 use Rattle.rules.specs.Tallying.{tallyChecks, tallySays}
+use Rattle.conversion.specs.Meanings.{conversionMeaning}
 use Rattle.page.specs.Meanings.{takeMeaning, readMeaning, coefficientMeaning, coefficientValues, tallyMeaning}
 use Rattle.page.specs.declared.Valued.{Valued}
 use Rattle.reporting.specs.Calls.{noRoom, linesFit, linesChecks, linesSays, linesLeaves, lineSays, lineLeaves}
@@ -122,6 +125,9 @@ linesConditions t books book pg p b =
     ∷ condition 12 (eachFrom (cellCheckAt t pg book) p (linesFit t p b))
     ∷ []
 
+abbrev pub convertConditions : List ℕ → ℕ → List ℕ → List ℕ → List Check
+convertConditions t books pg held = condition 4 (pageCheck t books pg ∷ pageCheck t books held ∷ []) ∷ []
+
 -- A call's refusals: `order` is the call's line in docs/RULES.md, "Order of checks", `conditions` says when each
 -- number is given, `checks` what is named with it, and `says` is what the contract says that the call says.
 pub record Refusing (order : List ℕ) (conditions checks : List Check) (says : List ℕ) : Type 0 where
@@ -200,6 +206,12 @@ pub record Demand1 : Type 0 where
       → Refusing (16 ∷ 17 ∷ 7 ∷ 8 ∷ 4 ∷ 12 ∷ []) (withMode mode t books (tallyConditions t books book pg)) (tallyChecks mode t books book pg)
       (tallySays mode t books book pg)
   pub tally-determined : (mode : ℕ) (t : List ℕ) (books book : ℕ) (pg : List ℕ) → Determined tallyMeaning (tallySays mode t books book pg)
+  -- Convert, both ways: 17, 7, 4
+  pub convert : (t : List ℕ) (books : ℕ) (pg held : List ℕ)
+      → Refusing (17 ∷ 7 ∷ 4 ∷ []) (withBooks t books (convertConditions t books pg held)) (convertChecks t books pg held) (convertSays t books pg held)
+  pub convert-unchanged : (from to : Layout) (t : List ℕ) (books : ℕ) (pg held : List ℕ)
+      → Unchanged (convertSays t books pg held) (convertLeaves from to t books pg held) held
+  pub convert-determined : (t : List ℕ) (books : ℕ) (pg held : List ℕ) → Determined conversionMeaning (convertSays t books pg held)
   -- The calls of the listing: lines as reading a place, 16, 17, 7, 8, 4, 12; one line of a known text, 4
   pub lines : (mode : ℕ) (t : List ℕ) (books book : ℕ) (pg : List ℕ) (p : ℕ) (held : List ℕ)
       → Refusing (16 ∷ 17 ∷ 7 ∷ 8 ∷ 4 ∷ 12 ∷ []) (withMode mode t books (linesConditions t books book pg p (length held)))

@@ -7,3 +7,4 @@ pub mod ForeignRows
 pub mod PastEnd
 pub mod BothModes
 pub mod Apart
+pub mod Layouts

@@ -9,7 +9,8 @@ use lib.Arith.{digits-lt, digits-div, digits-mod}
 use lib.ListN.{length, getD, drop, length-drop, drop-of-length-le}
 use lib.Seq.{length-take-le, take-nil, getD-take, getD-drop, ext-getD}
 use Rattle.records.specs.Record.{recordLength}
-use Rattle.layout.specs.Layout.{cellsOf, cellOf, pageLength, stateOffset, recordOffset, stateAt, recordAt, cellAt, bookAt}
+use Rattle.layout.specs.Layout.{cellsOf, cellOf, pageLength, stateOffset, recordOffset, stateFrom, recordFrom, cellAt, bookAt}
+use Rattle.layout.specs.declared.Layout.the-variants as layouts
 use Rattle.layout.proofs.Cells.{same-cell, record-byte, length-record, page-ext}
 use Rattle.layout.proofs.Offsets.{state-inside, record-inside}
 
@@ -71,25 +72,27 @@ module _ (places books : ℕ) (pg : List ℕ) (size : length pg ≡ pageLength (
   book-byte j k = getD-take (pageLength places) (drop first pg) j 0 k ∙ getD-drop first pg j 0
 
   pub book-cell : (p : ℕ) → p < places → cellAt (bookAt places pg book) p ≡ cellAt pg (cellOf places book p)
-  unfolding stateAt
+  unfolding stateFrom
   book-cell p k = same-cell state bytes
     where
-      state : stateAt (bookAt places pg book) p ≡ stateAt pg (cellOf places book p)
-      state = book-byte (stateOffset p) (state-inside places p k) ∙ ap (λ (j : ℕ). getD pg j 0) (omega arith)
-
-      byte : (i : ℕ) → i < 8 → getD (recordAt (bookAt places pg book) p) i 0 ≡ getD (recordAt pg (cellOf places book p)) i 0
-      byte i g =
-          record-byte (bookAt places pg book) p i g
-          ∙ book-byte (recordOffset p + i) (omega (arith, record-inside places p k))
+      state : stateFrom (bookAt places pg book) (stateOffset layouts.CellByCell 0 p) ≡ stateFrom pg (stateOffset layouts.CellByCell 0 (cellOf places book p))
+      state =
+          book-byte (stateOffset layouts.CellByCell 0 p) (state-inside layouts.CellByCell places p k)
           ∙ ap (λ (j : ℕ). getD pg j 0) (omega arith)
-          ∙ sym (record-byte pg (cellOf places book p) i g)
 
-      eight : length (recordAt (bookAt places pg book) p) ≡ recordLength
-      eight = length-record places (bookAt places pg book) book-size p k
+      byte : (i : ℕ) → i < 8 → getD (recordFrom (bookAt places pg book) (recordOffset layouts.CellByCell 0 p)) i 0 ≡ getD (recordFrom pg (recordOffset layouts.CellByCell 0 (cellOf places book p))) i 0
+      byte i g =
+          record-byte (bookAt places pg book) (recordOffset layouts.CellByCell 0 p) i g
+          ∙ book-byte (recordOffset layouts.CellByCell 0 p + i) (omega (arith, record-inside layouts.CellByCell places p k))
+          ∙ ap (λ (j : ℕ). getD pg j 0) (omega arith)
+          ∙ sym (record-byte pg (recordOffset layouts.CellByCell 0 (cellOf places book p)) i g)
 
-      bytes : recordAt (bookAt places pg book) p ≡ recordAt pg (cellOf places book p)
-      bytes = ext-getD 0 (recordAt (bookAt places pg book) p) (recordAt pg (cellOf places book p))
-          (eight ∙ sym (length-record (cellsOf places books) pg size (cellOf places book p) (cell-below places books book p h k)))
+      eight : length (recordFrom (bookAt places pg book) (recordOffset layouts.CellByCell 0 p)) ≡ recordLength
+      eight = length-record layouts.CellByCell places (bookAt places pg book) book-size p k
+
+      bytes : recordFrom (bookAt places pg book) (recordOffset layouts.CellByCell 0 p) ≡ recordFrom pg (recordOffset layouts.CellByCell 0 (cellOf places book p))
+      bytes = ext-getD 0 (recordFrom (bookAt places pg book) (recordOffset layouts.CellByCell 0 p)) (recordFrom pg (recordOffset layouts.CellByCell 0 (cellOf places book p)))
+          (eight ∙ sym (length-record layouts.CellByCell (cellsOf places books) pg size (cellOf places book p) (cell-below places books book p h k)))
           (λ i g. byte i (omega (arith, eight)))
 
 -- a book that the page does not have has no bytes
@@ -104,7 +107,7 @@ module _ (places books : ℕ) (pg pg′ : List ℕ) (size : length pg ≡ pageLe
   pub book-ext : (book : ℕ) → book < books → ((p : ℕ) → p < places → cellAt pg (cellOf places book p) ≡ cellAt pg′ (cellOf places book p))
       → bookAt places pg book ≡ bookAt places pg′ book
   book-ext book h same =
-      page-ext places (bookAt places pg book) (bookAt places pg′ book) (book-size places books pg size book h) (book-size places books pg′ size′ book h)
+      page-ext layouts.CellByCell places (bookAt places pg book) (bookAt places pg′ book) (book-size places books pg size book h) (book-size places books pg′ size′ book h)
       (λ p k. book-cell places books pg size book h p k ∙ same p k ∙ sym (book-cell places books pg′ size′ book h p k))
 
   -- and the same books have the same cells
@@ -115,7 +118,7 @@ module _ (places books : ℕ) (pg pg′ : List ℕ) (size : length pg ≡ pageLe
 
   -- pages whose cells are the same in every book are the same
   pub books-ext : ((book p : ℕ) → book < books → p < places → cellAt pg (cellOf places book p) ≡ cellAt pg′ (cellOf places book p)) → pg ≡ pg′
-  books-ext same = page-ext (cellsOf places books) pg pg′ size size′ (λ c h. by-book c (find places books c h))
+  books-ext same = page-ext layouts.CellByCell (cellsOf places books) pg pg′ size size′ (λ c h. by-book c (find places books c h))
     where
       by-book : (c : ℕ) → Found places books c → cellAt pg c ≡ cellAt pg′ c
       by-book c found = rw (found .is-cell) (same (found .book) (found .place) (found .in-books) (found .in-book))

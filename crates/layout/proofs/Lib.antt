@@ -1,4 +1,5 @@
 pub mod Offsets
 pub mod Cells
 pub mod Books
+pub mod Converting
 pub mod Example

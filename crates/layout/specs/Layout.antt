@@ -1,12 +1,14 @@
--- Where the state and the record of a place stand in a page (docs/RULES.md, "The page" and "Books": 9 bytes a place, a
--- state and a record; one book after another), and how long a page is. It is said here and nowhere else. pg is the
--- bytes of a page, c the number of a cell, p a place, `places` how many places a book has.
-use Prim.Native.Nat.{ℕ, _+_, _*_}
+-- Where the state and the record of a place stand in a page (docs/RULES.md, "The page", "Books" and "States first"),
+-- and how long a page is. It is said here and nowhere else. pg is the bytes of a page, n how many cells it has, c the
+-- number of a cell, p a place, `places` how many places a book has.
+use Prim.Native.Nat.{ℕ, zero, suc, _+_, _*_}
 use mathlib.Core.List.{List}
 use lib.ListN.{getD, set, take, drop, replicate}
 use Rattle.answers.specs.Checks.{Check, lengthCheck}
 use Rattle.buffers.specs.Written.{written}
 use Rattle.records.specs.Record.{recordLength}
+use Rattle.layout.specs.declared.Layout.{Layout}
+use Rattle.layout.specs.declared.Layout.the-variants as layouts
 
 -- what a page keeps for a place of a book: a state (0 empty, 1 held, 2 contested), and the 8 bytes of a record
 pub record Cell : Type 0 where
@@ -25,7 +27,7 @@ cellOf places book p = book * places + p
 abbrev pub cellLength : ℕ
 cellLength = 1 + recordLength
 
--- the bytes of a page of n cells
+-- the bytes of a page of n cells, in each layout
 abbrev pub pageLength : ℕ → ℕ
 pageLength n = cellLength * n
 
@@ -33,31 +35,51 @@ pageLength n = cellLength * n
 abbrev pub pageLengthCheck : ℕ → ℕ → Check
 pageLengthCheck cells b = lengthCheck b (pageLength cells)
 
--- the state of a cell, and its record behind it
-abbrev pub stateOffset : ℕ → ℕ
-stateOffset c = cellLength * c
+-- ---- the two layouts
+-- by number, where a caller has nothing but numbers
+abbrev pub layoutOf : ℕ → Layout
+layoutOf zero = layouts.CellByCell
+layoutOf (suc n) = layouts.StatesFirst
 
-abbrev pub recordOffset : ℕ → ℕ
-recordOffset c = cellLength * c + 1
+-- the state of a cell: at the cell's start; or behind the states of the cells before it
+abbrev pub stateOffset : Layout → ℕ → ℕ → ℕ
+stateOffset layouts.CellByCell n c = cellLength * c
+stateOffset layouts.StatesFirst n c = c
 
-unfoldable pub stateAt : List ℕ → ℕ → ℕ
-stateAt pg c = getD pg (stateOffset c) 0
+-- its record: behind its state; or behind all states and the records of the cells before it
+abbrev pub recordOffset : Layout → ℕ → ℕ → ℕ
+recordOffset layouts.CellByCell n c = cellLength * c + 1
+recordOffset layouts.StatesFirst n c = n + recordLength * c
 
-unfoldable pub recordAt : List ℕ → ℕ → List ℕ
-recordAt pg c = take recordLength (drop (recordOffset c) pg)
+-- the state and the record that stand from a byte on, and a cell stored there
+unfoldable pub stateFrom : List ℕ → ℕ → ℕ
+stateFrom pg at = getD pg at 0
 
+unfoldable pub recordFrom : List ℕ → ℕ → List ℕ
+recordFrom pg at = take recordLength (drop at pg)
+
+unfoldable pub stored : List ℕ → ℕ → ℕ → Cell → List ℕ
+stored pg s r cell = written (set pg s (cell .state)) r (cell .bytes) recordLength
+
+-- a cell of a page in a layout, and the page with another cell there
+abbrev pub cellIn : Layout → ℕ → List ℕ → ℕ → Cell
+cellIn layout n pg c = record { state = stateFrom pg (stateOffset layout n c); bytes = recordFrom pg (recordOffset layout n c) }
+
+abbrev pub setIn : Layout → ℕ → List ℕ → ℕ → Cell → List ℕ
+setIn layout n pg c cell = stored pg (stateOffset layout n c) (recordOffset layout n c) cell
+
+-- ---- cell by cell, where it does not matter how many cells there are: so the rules of a page speak of it
 abbrev pub cellAt : List ℕ → ℕ → Cell
-cellAt pg c = record { state = stateAt pg c; bytes = recordAt pg c }
+cellAt pg c = cellIn layouts.CellByCell 0 pg c
 
--- the page with another cell there
-unfoldable pub setCell : List ℕ → ℕ → Cell → List ℕ
-setCell pg c cell = written (set pg (stateOffset c) (cell .state)) (recordOffset c) (cell .bytes) recordLength
+abbrev pub setCell : List ℕ → ℕ → Cell → List ℕ
+setCell pg c cell = setIn layouts.CellByCell 0 pg c cell
 
 -- the bytes of a book
 unfoldable pub bookAt : ℕ → List ℕ → ℕ → List ℕ
 bookAt places pg book = take (pageLength places) (drop (pageLength (cellOf places book 0)) pg)
 
--- an empty page is all zeros
+-- ---- an empty page is all zeros, in each layout
 abbrev pub emptyPage : ℕ → List ℕ
 emptyPage n = replicate (pageLength n) 0
 

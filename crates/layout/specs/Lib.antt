@@ -1,3 +1,4 @@
 pub mod Layout
+pub mod Converting
 pub mod Bounds
 pub mod Example

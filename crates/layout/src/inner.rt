@@ -1,10 +1,14 @@
-// The cells of a page and its length, and a cell's state and record in it, read and changed.
+// The cells of a page and its length, and a cell's state and record in it, read and changed, in each layout. What is
+// told of a page is told of it cell by cell.
+use crate::Layout;
 ghost use mathlib.Core.Path.{_≡_};
-ghost use Prim.Native.Nat.{_≤_, _<_};
+ghost use Prim.Native.Nat.{_+_, _≤_, _<_};
 ghost use lib.ListN.{length};
+ghost use Rattle.buffers.specs.Written.{written};
 ghost use Rattle.records.specs.Record.{recordLength};
 ghost use Rattle.layout.specs.Bounds.{InPage};
-ghost use Rattle.layout.specs.Layout.{cellsOf, cellOf, pageLength, pageLengthCheck, stateAt, recordAt, setCell};
+ghost use Rattle.layout.specs.Converting.{converted, cellByCell};
+ghost use Rattle.layout.specs.Layout.{cellsOf, cellOf, pageLength, pageLengthCheck, layoutOf, stateOffset, recordOffset, cellAt, setCell};
 
 // Room for the longest page of one book, which has 4,096 places.
 pub const BOOK_ROOM: usize = 36864;
@@ -41,34 +45,94 @@ pub fn wrong_page(cells: usize, bytes: usize) -> bool
     bytes != page_length(cells)
 }
 
-// The state of a cell. The number of cells is what the contract speaks of.
-pub fn state_at(page: &[u8], cells: usize, cell: usize) -> u8
-    requires { ⌜ InPage (now page) cells cell ⌝ }
-    ensures { λ s. ⌜ s ≡ stateAt (now (page .entry)) cell ⌝ }
+// The layout of a number, for callers that have nothing but numbers: 0 is cell by cell, and any other is states first.
+pub fn layout_of(number: usize) -> Layout
+    ensures { λ r. ⌜ r ≡ layoutOf number ⌝ }
 {
-    page[9 * cell]
+    if number == 0 {
+        return Layout::CellByCell;
+    }
+    Layout::StatesFirst
+}
+
+// Where the state of a cell stands.
+fn state_offset(layout: Layout, cells: usize, cell: usize) -> usize
+    requires { ⌜ (cells ≤ 65536) × (cell < cells) ⌝ }
+    ensures { λ n. ⌜ n ≡ stateOffset layout cells cell ⌝ }
+{
+    match layout {
+        Layout::CellByCell => 9 * cell,
+        Layout::StatesFirst => cell,
+    }
+}
+
+// Where the record of a cell begins.
+fn record_offset(layout: Layout, cells: usize, cell: usize) -> usize
+    requires { ⌜ (cells ≤ 65536) × (cell < cells) ⌝ }
+    ensures { λ n. ⌜ n ≡ recordOffset layout cells cell ⌝ }
+{
+    match layout {
+        Layout::CellByCell => 9 * cell + 1,
+        Layout::StatesFirst => cells + 8 * cell,
+    }
+}
+
+// The state of a cell.
+pub fn state_at(layout: Layout, page: &[u8], cells: usize, cell: usize) -> u8
+    requires { ⌜ InPage (now page) cells cell ⌝ }
+    ensures { λ s. ⌜ s ≡ cellAt (cellByCell layout cells (now (page .entry))) cell .state ⌝ }
+{
+    page[state_offset(layout, cells, cell)]
 }
 
 // The record of a cell, a part of the page.
-pub fn record_at(page: &[u8], cells: usize, cell: usize) -> &[u8]
+pub fn record_at(layout: Layout, page: &[u8], cells: usize, cell: usize) -> &[u8]
     requires { ⌜ InPage (now page) cells cell ⌝ }
-    ensures { λ r. ⌜ (now r ≡ recordAt (now (page .entry)) cell) × (length (now r) ≡ recordLength) ⌝ }
+    ensures { λ r. ⌜ (now r ≡ cellAt (cellByCell layout cells (now (page .entry))) cell .bytes) × (length (now r) ≡ recordLength) ⌝ }
 {
-    let from = 9 * cell + 1;
+    let from = record_offset(layout, cells, cell);
     let to = from + 8;
     &page[from..to]
 }
 
-// A state and a record into the page.
-pub fn set_cell(page: &mut [u8], cells: usize, cell: usize, state: u8, bytes: &[u8])
-    requires { ⌜ InPage (now page) cells cell × (length (now bytes) ≡ recordLength) ⌝ }
-    ensures { λ _. ⌜ now (page .exit) ≡ setCell (now (page .entry)) cell (record { state = state; bytes = now (bytes .entry) }) ⌝ }
+// The bytes of a record into a page from a byte on.
+fn store(page: &mut [u8], from: usize, bytes: &[u8])
+    requires { ⌜ (from + recordLength ≤ length (now page)) × (length (now bytes) ≡ recordLength) ⌝ }
+    ensures { λ _. ⌜ now (page .exit) ≡ written (now (page .entry)) from (now (bytes .entry)) recordLength ⌝ }
 {
-    page[9 * cell] = state;
-    let from = 9 * cell + 1;
     let mut at = 0;
     while at < 8 {
         page[from + at] = bytes[at];
         at += 1;
+    }
+}
+
+// A state and a record into the page.
+pub fn set_cell(layout: Layout, page: &mut [u8], cells: usize, cell: usize, state: u8, bytes: &[u8])
+    requires { ⌜ InPage (now page) cells cell × (length (now bytes) ≡ recordLength) ⌝ }
+    ensures { λ _. ⌜ cellByCell layout cells (now (page .exit))
+        ≡ setCell (cellByCell layout cells (now (page .entry))) cell (record { state = state; bytes = now (bytes .entry) }) ⌝ }
+{
+    page[state_offset(layout, cells, cell)] = state;
+    store(page, record_offset(layout, cells, cell), bytes);
+}
+
+// Every cell of a page into another page, from where one layout has it to where the other has it.
+pub fn convert(from: Layout, to: Layout, cells: usize, page: &[u8], other: &mut [u8])
+    requires { ⌜ (length (now page) ≡ pageLength cells) × (length (now other) ≡ pageLength cells) × (cells ≤ 65536) ⌝ }
+    ensures { λ _. ⌜ now (other .exit) ≡ converted from to cells (now (page .entry)) ⌝ }
+{
+    let mut cell = 0;
+    while cell < cells {
+        let state = state_at(from, page, cells, cell);
+        set_cell(
+            to,
+            other,
+            cells,
+            cell,
+            state,
+            record_at(from, page, cells, cell),
+        );
+        cell += 1;
     }
 }

@@ -5,8 +5,11 @@ use mathlib.Core.Path.{_≡_, refl, sym, ap, ap₂, _∙_}
 use native.Mathlib.Omega.{arith}
 use lib.ListN.{length, length-append}
 use Rattle.tables.specs.BookNumbers.{oneBook}
-use Rattle.rules.proofs.Blocks.{collected-to, collected-then}
-use Rattle.rules.proofs.Runs.{parts-none}
+use Rattle.layout.specs.declared.Layout.the-variants as layouts
+use Rattle.laws.proofs.Layouts.{cells-already}
+use Rattle.rules.specs.Layouts.{asCells, asKept}
+use Rattle.laws.proofs.Blocks.{collected-to, collected-then}
+use Rattle.laws.proofs.Runs.{parts-none}
 use Rattle.rules.specs.Taking.{Received, after, collected}
 use Rattle.listing.specs.Took.{Took}
 
@@ -44,6 +47,18 @@ module _ {t pg left : List ℕ} {refused : ℕ} (so-far : TookWhole t pg left re
     records = so-far .records + n;
     whole = length-append (so-far .took .bytes) block ∙ omega (arith, so-far .whole, size);
   }
+
+-- a block taken into a page that is kept cell by cell, as the program keeps its page
+pub cell-by-cell : (t pg block : List ℕ) {refused : ℕ} {left : List ℕ}
+    → (refused ≡ collected t oneBook (asCells layouts.CellByCell t oneBook pg) block .refused)
+    × (left ≡ asKept layouts.CellByCell t oneBook (collected t oneBook (asCells layouts.CellByCell t oneBook pg) block .page))
+    → (refused ≡ collected t oneBook pg block .refused) × (left ≡ collected t oneBook pg block .page)
+cell-by-cell t pg block did =
+    let same = cells-already t oneBook pg in (
+      did .0 ∙ ap (λ (page : List ℕ). collected t oneBook page block .refused) same,
+      did .1 ∙ cells-already t oneBook (collected t oneBook (asCells layouts.CellByCell t oneBook pg) block .page)
+          ∙ ap (λ (page : List ℕ). collected t oneBook page block .page) same,
+    )
 
 -- a block of at most 65,536 bytes has at most 8,192 parts, so no more takes are refused
 pub refused-few : (t pg block : List ℕ) {refused : ℕ} → refused ≡ collected t oneBook pg block .refused → length block ≤ 65536 → refused ≤ 8192

@@ -87,7 +87,7 @@ pub fn index(numbering: Numbering, x: &[i32]) -> u64
     let radius = numbering.radius;
     let selected = numbering.selected;
     match selected {
-        Selected::Product(field) => product::inner::weigh::index_of(field, length, radius, x),
+        Selected::Product(field) => weighing::inner::index_of(field, length, radius, x),
         Selected::Magnitude => magnitude::inner::weigh::index_of(radius, x),
     }
 }

@@ -14,7 +14,7 @@ use Rattle.answers.proofs.InOrder.{Numbered, says-passes, passes-fails, fails-t
 use Rattle.answers.specs.Checks.{anyOf, firstOf, leaves, failsOf, Passes}
 use Rattle.answers.specs.Refusals.{meaning}
 use Rattle.answers.specs.declared.Refusal.{Refusal}
-use Rattle.rules.proofs.Runs.{parts-next, parts-none, parts-count, shut-after}
+use Rattle.laws.proofs.Runs.{parts-next, parts-none, parts-count, shut-after}
 use Rattle.rules.specs.Taking.{pageChecks, takeRest, takeChecks, takeInto, takeLeaves, refusals, Received, arrive, after, partsOf, collected}
 
 module _ (t : List ℕ) (books : ℕ) (pg : List ℕ) (ready : Passes (pageChecks t books pg)) (x : List ℕ) where

@@ -1,6 +1,6 @@
 // The calls of the page (docs/RULES.md, "The page" and "Books"): take a record, collect a run of records, read a place,
-// one coefficient, and the tally. All are given the number of books; the last three are given a mode and a book, too.
-// What they are made of stands in `inner`; what they are to say, in `rules`.
+// one coefficient, and the tally. All are given the number of books and the layout of the page; the last three are
+// given a mode and a book, too. What they are made of stands in `inner`; what they are to say, in `rules`.
 pub mod inner;
 
 use answers::Refusal;
@@ -13,6 +13,7 @@ use inner::taking::parts;
 use inner::taking::place_named;
 use inner::taking::take_record;
 use inner::tallying::tally_page;
+use layout::Layout;
 use pairing::inner::survey::Surveyed;
 use places::inner::opening::survey_look;
 use places::inner::opening::survey_page;
@@ -24,6 +25,7 @@ use rules::Reason;
 use tables::Book;
 use tables::Books;
 ghost use mathlib.Core.Path.{_≡_};
+ghost use Rattle.rules.specs.Layouts.{asCells, asKept};
 ghost use Rattle.rules.specs.Taking.{takeSays, takeLeaves, collected};
 ghost use Rattle.rules.specs.Reading.{readSays, readLeaves, coefficientSays, coefficientCarries};
 ghost use Rattle.rules.specs.Tallying.{tallySays};
@@ -78,14 +80,16 @@ pub enum Tallied {
 }
 
 // The call take: a record into the page. It changes the cell of the record's place in its book and no other byte.
-pub fn take(table: &[u8], books: Books, page: &mut [u8], bytes: &[u8]) -> Arrival
-    ensures { λ r. ⌜ (takeMeaning r ≡ takeSays (now (table .entry)) (books .0) (now (page .entry)) (now (bytes .entry)))
-        × (now (page .exit) ≡ takeLeaves (now (table .entry)) (books .0) (now (page .entry)) (now (bytes .entry))) ⌝ }
+pub fn take(table: &[u8], books: Books, layout: Layout, page: &mut [u8], bytes: &[u8]) -> Arrival
+    ensures { λ r. ⌜ (takeMeaning r
+        ≡ takeSays (now (table .entry)) (books .0) (asCells layout (now (table .entry)) (books .0) (now (page .entry))) (now (bytes .entry)))
+        × (now (page .exit) ≡ asKept layout (now (table .entry)) (books .0)
+        (takeLeaves (now (table .entry)) (books .0) (asCells layout (now (table .entry)) (books .0) (now (page .entry))) (now (bytes .entry)))) ⌝ }
 {
     match survey_page(table, books, page, place_named(bytes)) {
         Surveyed::Good { places, row } => {
             let foreign = names_other_row(bytes, row);
-            take_record(table, places, books, foreign, page, bytes)
+            take_record(table, places, books, foreign, layout, page, bytes)
         }
         Surveyed::Bad(refusal) => Arrival::Refused(refusal),
     }
@@ -93,12 +97,21 @@ pub fn take(table: &[u8], books: Books, page: &mut [u8], bytes: &[u8]) -> Arriva
 
 // The call collect: a run of bytes, eight by eight and a shorter last part too, each taken in turn; how many takes
 // were refused. With a number of books, a table or a page that take would refuse, all of them are.
-pub fn collect(table: &[u8], books: Books, page: &mut [u8], bytes: &[u8]) -> usize
-    ensures { λ r. ⌜ (r ≡ collected (now (table .entry)) (books .0) (now (page .entry)) (now (bytes .entry)) .refused)
-        × (now (page .exit) ≡ collected (now (table .entry)) (books .0) (now (page .entry)) (now (bytes .entry)) .page) ⌝ }
+pub fn collect(table: &[u8], books: Books, layout: Layout, page: &mut [u8], bytes: &[u8]) -> usize
+    ensures { λ r. ⌜ (r
+        ≡ collected (now (table .entry)) (books .0) (asCells layout (now (table .entry)) (books .0) (now (page .entry))) (now (bytes .entry)) .refused)
+        × (now (page .exit) ≡ asKept layout (now (table .entry)) (books .0)
+        (collected (now (table .entry)) (books .0) (asCells layout (now (table .entry)) (books .0) (now (page .entry))) (now (bytes .entry)) .page)) ⌝ }
 {
     match survey_page(table, books, page, 0) {
-        Surveyed::Good { places, row: _ } => collect_records(table, places, books, page, bytes),
+        Surveyed::Good { places, row: _ } => collect_records(
+            table,
+            places,
+            books,
+            layout,
+            page,
+            bytes,
+        ),
         Surveyed::Bad(_) => parts(bytes.len()),
     }
 }
@@ -109,12 +122,15 @@ pub fn read(
     table: &[u8],
     books: Books,
     book: Book,
+    layout: Layout,
     page: &[u8],
     place: usize,
     out: &mut [i32],
 ) -> Reading
-    ensures { λ r. ⌜ (readMeaning r ≡ readSays (mode .0) (now (table .entry)) (books .0) (book .0) (now (page .entry)) place (now (out .entry)))
-        × (now (out .exit) ≡ readLeaves (mode .0) (now (table .entry)) (books .0) (book .0) (now (page .entry)) place (now (out .entry))) ⌝ }
+    ensures { λ r. ⌜ (readMeaning r ≡ readSays (mode .0) (now (table .entry)) (books .0) (book .0)
+        (asCells layout (now (table .entry)) (books .0) (now (page .entry))) place (now (out .entry)))
+        × (now (out .exit) ≡ readLeaves (mode .0) (now (table .entry)) (books .0) (book .0)
+        (asCells layout (now (table .entry)) (books .0) (now (page .entry))) place (now (out .entry))) ⌝ }
 {
     match survey_look(mode, table, books, book, page, place) {
         Surveyed::Good { places, row } => {
@@ -123,7 +139,7 @@ pub fn read(
                 place,
                 row,
             };
-            let spot = locate(places, books.0, named);
+            let spot = locate(layout, places, books.0, named);
             read_at(mode, row_at(table, row), page, spot, out)
         }
         Surveyed::Bad(refusal) => Reading::Refused(refusal),
@@ -136,12 +152,15 @@ pub fn coefficient(
     table: &[u8],
     books: Books,
     book: Book,
+    layout: Layout,
     page: &[u8],
     place: usize,
     coordinate: usize,
 ) -> Valued
-    ensures { λ r. ⌜ (coefficientMeaning r ≡ coefficientSays (mode .0) (now (table .entry)) (books .0) (book .0) (now (page .entry)) place coordinate)
-        × (coefficientValues r ≡ coefficientCarries (mode .0) (now (table .entry)) (books .0) (book .0) (now (page .entry)) place coordinate) ⌝ }
+    ensures { λ r. ⌜ (coefficientMeaning r ≡ coefficientSays (mode .0) (now (table .entry)) (books .0) (book .0)
+        (asCells layout (now (table .entry)) (books .0) (now (page .entry))) place coordinate)
+        × (coefficientValues r ≡ coefficientCarries (mode .0) (now (table .entry)) (books .0) (book .0)
+        (asCells layout (now (table .entry)) (books .0) (now (page .entry))) place coordinate) ⌝ }
 {
     match survey_look(mode, table, books, book, page, place) {
         Surveyed::Good { places, row } => {
@@ -150,7 +169,7 @@ pub fn coefficient(
                 place,
                 row,
             };
-            let spot = locate(places, books.0, named);
+            let spot = locate(layout, places, books.0, named);
             coefficient_at(mode, row_at(table, row), page, spot, coordinate)
         }
         Surveyed::Bad(refusal) => Valued::Refused(refusal),
@@ -158,11 +177,28 @@ pub fn coefficient(
 }
 
 // The call tally: the five counts of a book.
-pub fn tally(mode: Mode, table: &[u8], books: Books, book: Book, page: &[u8]) -> Tallied
-    ensures { λ r. ⌜ tallyMeaning r ≡ tallySays (mode .0) (now (table .entry)) (books .0) (book .0) (now (page .entry)) ⌝ }
+pub fn tally(
+    mode: Mode,
+    table: &[u8],
+    books: Books,
+    book: Book,
+    layout: Layout,
+    page: &[u8],
+) -> Tallied
+    ensures { λ r. ⌜ tallyMeaning r
+        ≡ tallySays (mode .0) (now (table .entry)) (books .0) (book .0) (asCells layout (now (table .entry)) (books .0) (now (page .entry))) ⌝ }
 {
     match survey_whole(mode, table, books, book, page) {
-        Surveyed::Good { places, row } => tally_page(mode, table, places, books, book, row, page),
+        Surveyed::Good { places, row } => tally_page(
+            mode,
+            table,
+            places,
+            books,
+            book,
+            row,
+            layout,
+            page,
+        ),
         Surveyed::Bad(refusal) => Tallied::Refused(refusal),
     }
 }

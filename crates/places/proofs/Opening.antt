@@ -26,9 +26,12 @@ use Rattle.tables.specs.Way.{AtRow}
 use Rattle.records.specs.declared.inner.Named.{Named}
 use Rattle.layout.proofs.Books.{cells-to, cell-below}
 use Rattle.layout.specs.Layout.{cellsOf, pageLengthCheck}
-use Rattle.cells.specs.Spots.{Locatable, IsSpot, SpotIn, cellThere, badThere}
+use Rattle.layout.specs.declared.Layout.{Layout}
+use Rattle.cells.specs.Spots.{Locatable, IsSpot, SpotIn, pageThere, cellThere, badThere}
 use Rattle.cells.specs.declared.inner.spot.Spot.{Spot}
-use Rattle.rules.proofs.Pages.{Sized, look-numbered, look-shared, look-place, look-size, bad-on-way}
+use Rattle.laws.proofs.Layouts.{as-sized, same-look-checks}
+use Rattle.laws.proofs.Pages.{Sized, look-numbered, look-shared, look-place, look-size, bad-on-way}
+use Rattle.rules.specs.Layouts.{asCells}
 use Rattle.rules.specs.Reading.{lookChecks}
 use Rattle.rules.specs.Taking.{cellFor, badAt, pageCheck}
 use Rattle.places.specs.Opening.{placesTold, withPage}
@@ -90,7 +93,7 @@ module _ (t : List ℕ) (books : ℕ) (shared : GoodBooks t books) {places : ℕ
         in-book = rw is-places below;
       }
 
-  module _ {spot : Spot} (located : IsSpot places books named spot) where
+  module _ {layout : Layout} {spot : Spot} (located : IsSpot layout places books named spot) where
     pub spot-in : (pg : List ℕ) → Sized t books pg → SpotIn pg spot
     spot-in pg size =
         record {
@@ -99,13 +102,16 @@ module _ (t : List ℕ) (books : ℕ) (shared : GoodBooks t books) {places : ℕ
           below = rw (located .is-cells, located .is-cell) (cell-below places books (named .book) (named .place) in-books (locatable .in-book));
         }
 
-    pub cell-there : (pg : List ℕ) → cellThere pg spot ≡ cellFor t pg (named .book) (named .place)
-    cell-there pg = rw (located .is-cell, is-places) refl
+    pub page-there : (pg : List ℕ) → pageThere pg spot ≡ asCells layout t books pg
+    page-there pg = rw (located .is-layout, located .is-cells, is-places) refl
+
+    pub cell-there : (pg : List ℕ) → cellThere pg spot ≡ cellFor t (asCells layout t books pg) (named .book) (named .place)
+    cell-there pg = rw (page-there pg, located .is-cell, is-places) refl
 
     -- 12 of it, in a row that was reached on the way through the rows
     pub bad-there : {end : ℕ} → AtRow t (named .row) end (named .place) → (pg : List ℕ) {b : Bool} → badThere pg spot ≡ b
-        → badAt t pg (named .book) (named .place) ≡ b
-    bad-there at-row pg found = bad-on-way at-row below pg (named .book) (rw (located .is-named, cell-there pg) at found)
+        → badAt t (asCells layout t books pg) (named .book) (named .place) ≡ b
+    bad-there at-row pg found = bad-on-way at-row below (asCells layout t books pg) (named .book) (rw (located .is-named, cell-there pg) at found)
 
 -- the row of a place
 pub row-of-place : (t : List ℕ) (p : ℕ) → Good t → p < placesIn t → IsRow (rowFor t p)
@@ -113,33 +119,40 @@ row-of-place t p good below =
     let in-table = row-below t p below in
     record { sixteen = row-length t (rowOf t p) in-table; row-good = good-row t good (rowOf t p) in-table }
 
--- a place that may be looked at, by what its survey answered
-pub look-found : (mode : ℕ) (t : List ℕ) (books book : ℕ) (pg : List ℕ) (p : ℕ) {survey : Surveyed} {places row : ℕ}
-    → surveyMeaning survey ≡ surveySays (lookChecks mode t books book pg p) t p → survey ≡ surveyed.Good places row
-    → Surveys (lookChecks mode t books book pg p) t p places row
-look-found mode t books book pg p says told =
-    survey-good (lookChecks mode t books book pg p) t p says (look-numbered mode t books book pg p) told
+-- ---- a place that may be looked at in a page that is kept in a layout
+module _ (layout : Layout) (mode : ℕ) (t : List ℕ) (books book : ℕ) (page : List ℕ) (p : ℕ) where
+  abbrev pg : List ℕ
+  pg = asCells layout t books page
 
-module _ (mode : ℕ) (t : List ℕ) (books book : ℕ) (pg : List ℕ) (p : ℕ) {places row : ℕ}
-    (found : Surveys (lookChecks mode t books book pg p) t p places row) where
-  abbrev pub namedAt : Named
-  namedAt = record { book = book; place = p; row = row }
+  -- what its survey says, of the page cell by cell
+  pub look-says : {said : List ℕ} → said ≡ surveySays (lookChecks mode t books book page p) t p → said ≡ surveySays (lookChecks mode t books book pg p) t p
+  look-says says = says ∙ ap (λ (checks : List Check). surveySays checks t p) (same-look-checks layout t books page mode book p)
 
-  shared : GoodBooks t books
-  shared = look-shared mode t books book pg p (found .passes) .0
+  pub look-found : {survey : Surveyed} {places row : ℕ} → surveyMeaning survey ≡ surveySays (lookChecks mode t books book page p) t p
+      → survey ≡ surveyed.Good places row → Surveys (lookChecks mode t books book pg p) t p places row
+  look-found says told = survey-good (lookChecks mode t books book pg p) t p (look-says says) (look-numbered mode t books book pg p) told
 
-  in-books : book < books
-  in-books = look-shared mode t books book pg p (found .passes) .1
+  module _ {places row : ℕ} (found : Surveys (lookChecks mode t books book pg p) t p places row) where
+    abbrev pub namedAt : Named
+    namedAt = record { book = book; place = p; row = row }
 
-  below : p < placesIn t
-  below = look-place mode t books book pg p (found .passes) .1
+    shared : GoodBooks t books
+    shared = look-shared mode t books book pg p (found .passes) .0
 
-  pub look-locatable : Locatable places books namedAt
-  look-locatable = locatable t books shared (found .is-places) namedAt in-books below
+    in-books : book < books
+    in-books = look-shared mode t books book pg p (found .passes) .1
 
-  module _ {spot : Spot} (located : IsSpot places books namedAt spot) where
-    pub look-spot-in : SpotIn pg spot
-    look-spot-in = spot-in t books shared (found .is-places) namedAt in-books below located pg (look-size mode t books book pg p (found .passes))
+    below : p < placesIn t
+    below = look-place mode t books book pg p (found .passes) .1
 
-    pub look-cell : cellThere pg spot ≡ cellFor t pg book p
-    look-cell = cell-there t books shared (found .is-places) namedAt in-books below located pg
+    pub look-locatable : Locatable places books namedAt
+    look-locatable = locatable t books shared (found .is-places) namedAt in-books below
+
+    module _ {spot : Spot} (located : IsSpot layout places books namedAt spot) where
+      pub look-spot-in : SpotIn page spot
+      look-spot-in =
+          spot-in t books shared (found .is-places) namedAt in-books below located page
+          (as-sized layout t books page (look-size mode t books book pg p (found .passes)))
+
+      pub look-cell : cellThere page spot ≡ cellFor t pg book p
+      look-cell = cell-there t books shared (found .is-places) namedAt in-books below located page

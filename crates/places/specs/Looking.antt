@@ -3,7 +3,7 @@ use Prim.Native.Nat.{ℕ}
 use mathlib.Core.Bool.{true, false}
 use mathlib.Core.List.{List}
 use mathlib.Core.Path.{_≡_}
-use Rattle.cells.specs.Seen.{Sees}
+use Rattle.judging.specs.Seen.{Sees}
 use Rattle.cells.specs.Spots.{badNamed}
 use Rattle.layout.specs.Layout.{Cell}
 use Rattle.records.specs.declared.inner.Named.{Named}

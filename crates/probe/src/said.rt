@@ -2,6 +2,7 @@
 // an item past the end is 0.
 use answers::Refusal;
 use answers::in_numbers;
+use conversion::Conversion;
 use page::Answer;
 use page::Arrival;
 use page::Reading;
@@ -15,6 +16,7 @@ ghost use mathlib.Core.Path.{_≡_};
 ghost use mathlib.Core.List.{_∷_, []};
 ghost use lib.ListN.{getD};
 ghost use Rattle.answers.specs.Refusals.{meaning};
+ghost use Rattle.conversion.specs.Meanings.{conversionMeaning};
 ghost use Rattle.report.specs.Meanings.{listedMeaning};
 ghost use Rattle.rules.specs.Judging.{reasonNumber, reasonDistance};
 ghost use Rattle.sending.specs.Meanings.{sendMeaning};
@@ -73,6 +75,15 @@ pub fn take_item(answer: Arrival, which: usize) -> u64
     match answer {
         Arrival::Taken => 0,
         Arrival::Refused(refusal) => refused(refusal, which),
+    }
+}
+
+pub fn conversion_item(answer: Conversion, which: usize) -> u64
+    ensures { λ r. ⌜ r ≡ getD (conversionMeaning answer) which 0 ⌝ }
+{
+    match answer {
+        Conversion::Converted => 0,
+        Conversion::Refused(refusal) => refused(refusal, which),
     }
 }
 

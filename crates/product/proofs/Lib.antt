@@ -1,6 +1,2 @@
-pub mod After
-pub mod Few
-pub mod Growth
-pub mod Weighing
 pub mod Writing
 pub mod Located

@@ -1,5 +1,4 @@
-// What the product enumeration is made of.
+// What the point of an index is made of.
 pub mod components;
 pub mod range;
 pub mod read;
-pub mod weigh;

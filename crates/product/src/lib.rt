@@ -1,3 +1,3 @@
-// The product enumeration: the index of a point and the point of an index, for a shell that has passed its checks.
-// The calls are in `points`.
+// The point of an index by the product and the product-product enumeration, for a shell that has passed its checks. The
+// calls are in `points`; the index of a point is in `weighing`.
 pub mod inner;

@@ -16,9 +16,9 @@ use Rattle.answers.specs.declared.Refusal.the-variants as refusal
 use Rattle.buffers.proofs.Writing.{begins-with, wrote-length}
 use Rattle.buffers.specs.Written.{Wrote}
 use Rattle.tables.proofs.Walking.{placed-in}
-use Rattle.rules.proofs.Pages.{look-shared, look-place, look-size}
+use Rattle.laws.proofs.Pages.{look-shared, look-place, look-size}
 use Rattle.rules.specs.Taking.{cellCheckAt}
-use Rattle.report.specs.Bounds.{HasRoom, Listable}
+use Rattle.report.specs.Bounds.{pageSpanned, HasRoom, Listable}
 use Rattle.report.specs.declared.inner.block.Span.{Span}
 use Rattle.reporting.specs.Calls.{startingWith, lineSpace, noRoom, linesFit, linesRest, linesText, linesAnswer, lineSays, lineLeaves}
 use Rattle.reporting.specs.Listing.{linesFrom}
@@ -61,7 +61,7 @@ module _ (mode : ℕ) (t pg : List ℕ) (book p : ℕ) (held : List ℕ) where
   pub lines-4 : length held < lineSpace → SaysLines (4 ∷ []) held 0
   lines-4 short = lines-refused refusal.BufferLength (rw (lt-ltb (length held) lineSpace short) refl)
 
-module _ {mode : ℕ} {t pg : List ℕ} {opened : Span} (found : Listable mode t pg opened) where
+module _ {mode : ℕ} {t page : List ℕ} {opened : Span} (found : Listable mode t page opened) where
   abbrev p : ℕ
   p = opened .from
 
@@ -72,7 +72,7 @@ module _ {mode : ℕ} {t pg : List ℕ} {opened : Span} (found : Listable mode t
   books = opened .books
 
   pub from-places : p ≤ opened .to
-  from-places = omega (arith, found .to-end, found .is-places, look-place mode t books book pg p (found .passes) .1)
+  from-places = omega (arith, found .to-end, found .is-places, look-place mode t books book page p (found .passes) .1)
 
   -- as many as there are, or as there is room for
   module _ (held : List ℕ) {count : ℕ} (is-count : count ≡ min (opened .to - p) (length held / lineSpace)) where
@@ -80,16 +80,16 @@ module _ {mode : ℕ} {t pg : List ℕ} {opened : Span} (found : Listable mode t
     fits = rw (← found .is-places, ← found .to-end) (omega (arith, is-count))
 
     abbrev pub spanned : Span
-    spanned = record { places = opened .places; books = books; book = book; row = opened .row; from = p; to = p + count }
+    spanned = record { layout = opened .layout; places = opened .places; books = books; book = book; row = opened .row; from = p; to = p + count }
 
-    pub has-room : HasRoom t pg spanned held
+    pub has-room : HasRoom t page spanned held
     has-room =
-        let place = look-place mode t books book pg p (found .passes) in
-        let shared = look-shared mode t books book pg p (found .passes) in
+        let place = look-place mode t books book page p (found .passes) in
+        let shared = look-shared mode t books book page p (found .passes) in
         record {
           spans = record {
             shared = shared .0;
-            size = look-size mode t books book pg p (found .passes);
+            size = look-size mode t books book page p (found .passes);
             in-books = shared .1;
             is-places = found .is-places;
             to-places = omega (arith, from-places, is-count, found .to-end);
@@ -101,18 +101,18 @@ module _ {mode : ℕ} {t pg : List ℕ} {opened : Span} (found : Listable mode t
 
     -- what is said of their cells, and then written
     module _ (room : lineSpace ≤ length held) where
-      pub lines-12 : (r : Refusal) → meaning r ≡ firstOf (eachFrom (cellCheckAt t pg book) p (p + count - p)) (0 ∷ [])
-          → SaysLines mode t pg book p held (meaning r) held 0
-      lines-12 r said = lines-refused mode t pg book p held r (rw (le-ltb (length held) lineSpace room) (rw fits at said))
+      pub lines-12 : (r : Refusal) → meaning r ≡ firstOf (eachFrom (cellCheckAt t (pageSpanned t page opened) book) p (p + count - p)) (0 ∷ [])
+          → SaysLines mode t (pageSpanned t page opened) book p held (meaning r) held 0
+      lines-12 r said = lines-refused mode t (pageSpanned t page opened) book p held r (rw (le-ltb (length held) lineSpace room) (rw fits at said))
 
-      pub lines-written : {end : ℕ} {x : List ℕ} → 0 ∷ [] ≡ firstOf (eachFrom (cellCheckAt t pg book) p (p + count - p)) (0 ∷ [])
-          → Wrote held 0 (linesFrom mode t pg book p (p + count - p)) (lineSpace * (p + count - p)) end x
-          → SaysLines mode t pg book p held (0 ∷ (p + count) ∷ end ∷ []) x end
+      pub lines-written : {end : ℕ} {x : List ℕ} → 0 ∷ [] ≡ firstOf (eachFrom (cellCheckAt t (pageSpanned t page opened) book) p (p + count - p)) (0 ∷ [])
+          → Wrote held 0 (linesFrom mode t (pageSpanned t page opened) book p (p + count - p)) (lineSpace * (p + count - p)) end x
+          → SaysLines mode t (pageSpanned t page opened) book p held (0 ∷ (p + count) ∷ end ∷ []) x end
       lines-written {end} said w =
           let b = length held in
-          let none-bad = says-passes [] [] (eachFrom (cellCheckAt t pg book) p (linesFit t p b)) (each-numbered (cellCheckAt t pg book) p (linesFit t p b) (λ j. lit< tt)) (sym (rw fits at said)) in
+          let none-bad = says-passes [] [] (eachFrom (cellCheckAt t (pageSpanned t page opened) book) p (linesFit t p b)) (each-numbered (cellCheckAt t (pageSpanned t page opened) book) p (linesFit t p b) (λ j. lit< tt)) (sym (rw fits at said)) in
           let wrote = rw fits at w in
           let to : p + count ≡ p + linesFit t p b = omega (arith, fits) in
-          let size : end ≡ length (linesText mode t pg book p b) = omega (arith, wrote .ends) in
-          let did = says-written (linesRest t pg book p b) (linesAnswer mode t pg book p b) (linesText mode t pg book p b) held (le-ltb b lineSpace room, none-bad) (rw fits at (has-room .room)) wrote in
+          let size : end ≡ length (linesText mode t (pageSpanned t page opened) book p b) = omega (arith, wrote .ends) in
+          let did = says-written (linesRest t (pageSpanned t page opened) book p b) (linesAnswer mode t (pageSpanned t page opened) book p b) (linesText mode t (pageSpanned t page opened) book p b) held (le-ltb b lineSpace room, none-bad) (rw fits at (has-room .room)) wrote in
           (rw (to, size) (did .0), did .1)

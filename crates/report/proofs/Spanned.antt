@@ -11,10 +11,10 @@ use Rattle.cells.specs.Spots.{Locatable, IsSpot, SpotIn, cellThere, badThere}
 use Rattle.cells.specs.declared.inner.spot.Spot.{Spot}
 use Rattle.rules.specs.Taking.{cellFor, badAt}
 use Rattle.places.proofs.Opening.{locatable, spot-in, cell-there, bad-there}
-use Rattle.report.specs.Bounds.{Spans}
+use Rattle.report.specs.Bounds.{pageSpanned, Spans}
 use Rattle.report.specs.declared.inner.block.Span.{Span}
 
-module _ {t pg : List ℕ} {span : Span} (spans : Spans t pg span) {p : ℕ} (h : p < span .to) where
+module _ {t page : List ℕ} {span : Span} (spans : Spans t page span) {p : ℕ} (h : p < span .to) where
   pub inside : p < placesIn t
   inside = omega (arith, spans .to-places, spans .is-places)
 
@@ -25,12 +25,12 @@ module _ {t pg : List ℕ} {span : Span} (spans : Spans t pg span) {p : ℕ} (h 
     pub its-spot : Locatable (span .places) (span .books) named
     its-spot = locatable t (span .books) (spans .shared) (spans .is-places) named (spans .in-books) inside
 
-    module _ {spot : Spot} (located : IsSpot (span .places) (span .books) named spot) where
-      pub its-cell : SpotIn pg spot
-      its-cell = spot-in t (span .books) (spans .shared) (spans .is-places) named (spans .in-books) inside located pg (spans .size)
+    module _ {spot : Spot} (located : IsSpot (span .layout) (span .places) (span .books) named spot) where
+      pub its-cell : SpotIn page spot
+      its-cell = spot-in t (span .books) (spans .shared) (spans .is-places) named (spans .in-books) inside located page (spans .size)
 
-      pub its-bytes : cellThere pg spot ≡ cellFor t pg (span .book) p
-      its-bytes = cell-there t (span .books) (spans .shared) (spans .is-places) named (spans .in-books) inside located pg
+      pub its-bytes : cellThere page spot ≡ cellFor t (pageSpanned t page span) (span .book) p
+      its-bytes = cell-there t (span .books) (spans .shared) (spans .is-places) named (spans .in-books) inside located page
 
-      pub found-is : {b : Bool} → badThere pg spot ≡ b → badAt t pg (span .book) p ≡ b
-      found-is = bad-there t (span .books) (spans .shared) (spans .is-places) named (spans .in-books) inside located at-row pg
+      pub found-is : {b : Bool} → badThere page spot ≡ b → badAt t (pageSpanned t page span) (span .book) p ≡ b
+      found-is = bad-there t (span .books) (spans .shared) (spans .is-places) named (spans .in-books) inside located at-row page

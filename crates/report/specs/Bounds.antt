@@ -8,9 +8,14 @@ use Rattle.tables.specs.BookNumbers.{GoodBooks}
 use Rattle.tables.specs.Table.{placesIn, rowOf}
 use Rattle.tables.specs.Way.{Placed}
 use Rattle.layout.specs.Layout.{cellsOf, pageLength}
+use Rattle.rules.specs.Layouts.{asCells}
 use Rattle.rules.specs.Reading.{lookChecks}
 use Rattle.reporting.specs.Calls.{lineSpace}
 use Rattle.report.specs.declared.inner.block.Span.{Span}
+
+-- the page of a span, cell by cell
+abbrev pub pageSpanned : List ℕ → List ℕ → Span → List ℕ
+pageSpanned t pg span = asCells (span .layout) t (span .books) pg
 
 -- these places of a book, the first in this row of a good table that so many books share, are in the page
 pub record Spans (t pg : List ℕ) (span : Span) : Type 0 where

@@ -6,6 +6,7 @@ use answers::Refusal;
 use inner::block::Span;
 use inner::block::lines_from;
 use inner::refusal::write_refusal;
+use layout::Layout;
 use page::Counts;
 use pairing::inner::survey::Surveyed;
 use places::inner::opening::survey_look;
@@ -18,6 +19,7 @@ ghost use Prim.Native.Nat.{_≤_};
 ghost use lib.ListN.{length};
 ghost use Rattle.answers.specs.Refusals.{meaning, printed};
 ghost use Rattle.page.specs.Meanings.{countsMeaning};
+ghost use Rattle.rules.specs.Layouts.{asCells};
 ghost use Rattle.wording.specs.Text.{refusedText};
 ghost use Rattle.reporting.specs.Listing.{lastLine};
 ghost use Rattle.reporting.specs.Calls.{linesSays, linesLeaves, lineSays, lineLeaves};
@@ -42,17 +44,21 @@ pub fn lines(
     table: &[u8],
     books: Books,
     book: Book,
+    layout: Layout,
     page: &[u8],
     from: usize,
     out: &mut [u8],
 ) -> Listed
-    ensures { λ r. ⌜ (listedMeaning r ≡ linesSays (mode .0) (now (table .entry)) (books .0) (book .0) (now (page .entry)) from (now (out .entry)))
-        × (now (out .exit) ≡ linesLeaves (mode .0) (now (table .entry)) (books .0) (book .0) (now (page .entry)) from (now (out .entry)))
+    ensures { λ r. ⌜ (listedMeaning r ≡ linesSays (mode .0) (now (table .entry)) (books .0) (book .0)
+        (asCells layout (now (table .entry)) (books .0) (now (page .entry))) from (now (out .entry)))
+        × (now (out .exit) ≡ linesLeaves (mode .0) (now (table .entry)) (books .0) (book .0)
+        (asCells layout (now (table .entry)) (books .0) (now (page .entry))) from (now (out .entry)))
         × (sizeListed r ≤ length (now (out .exit))) ⌝ }
 {
     match survey_look(mode, table, books, book, page, from) {
         Surveyed::Good { places, row } => {
             let opened = Span {
+                layout,
                 places,
                 books: books.0,
                 book: book.0,

@@ -9,7 +9,7 @@ use Rattle.enumeration.specs.Reading.{rangeFrom, rangeOf, patternOf, shapeOf, s
 use Rattle.enumeration.specs.Enumerations.{selectedBy}
 use Rattle.tables.specs.Row.{byteOf, enumerationOf, badRadius, badRadii, badRow}
 use Rattle.tables.specs.Table.{rowAt, placesBefore, rowsBefore}
-use Rattle.layout.specs.Layout.{stateAt, recordAt, setCell}
+use Rattle.layout.specs.Layout.{stateFrom, recordFrom, stored}
 use Rattle.rules.specs.Taking.{badCell, takeCell, refusals, arrive, after, partsFrom}
 use Rattle.rules.specs.Judging.{judgeCodeword, judgeRecord, judge}
 use Rattle.rules.specs.Tallying.{countOf}
@@ -18,7 +18,7 @@ use Rattle.buffers.specs.Joined.{joined}
 use Rattle.reporting.specs.Example.{Example}
 
 pub example : Example
-unfolding N binomial D S B sumAfter rangeSize rangeStart fieldTotal distance width bitsFrom rangeFrom rangeOf patternOf firstAmong leftAmong shapeOf signsOf pointFrom pointWithin productPoint namesWithin productNames byteOf selectedBy enumerationOf badRadius badRadii badRow rowAt placesBefore rowsBefore stateAt recordAt setCell badCell takeCell refusals arrive after partsFrom judgeCodeword judgeRecord judge countOf decimal digitsOf joined
+unfolding N binomial D S B sumAfter rangeSize rangeStart fieldTotal distance width bitsFrom rangeFrom rangeOf patternOf firstAmong leftAmong shapeOf signsOf pointFrom pointWithin productPoint namesWithin productNames byteOf selectedBy enumerationOf badRadius badRadii badRow rowAt placesBefore rowsBefore stateFrom recordFrom stored badCell takeCell refusals arrive after partsFrom judgeCodeword judgeRecord judge countOf decimal digitsOf joined
 example =
     record {
       whole-case = refl;

@@ -20,9 +20,9 @@ use Rattle.tables.proofs.PlaceChecks.{passes-book, passes-place}
 use Rattle.tables.proofs.Seven.{table-says-7, wrong-size-bad, room-tells}
 use Rattle.tables.specs.BookNumbers.{oneBook, onlyBook, GoodBooks, bookChecks}
 use Rattle.tables.specs.Table.{tableRoom, placesIn, tableChecks, checkSays, Good}
-use Rattle.rules.proofs.Blocks.{collected-then}
-use Rattle.rules.proofs.Grown.{grown-ready, grown-not-bad}
-use Rattle.rules.proofs.Pages.{Sized, page-size, whole-passes, look-numbered, look-passes, look-place}
+use Rattle.laws.proofs.Blocks.{collected-then}
+use Rattle.laws.proofs.Grown.{grown-ready, grown-not-bad}
+use Rattle.laws.proofs.Pages.{Sized, page-size, whole-passes, look-numbered, look-passes, look-place}
 use Rattle.rules.specs.Modes.{mending}
 use Rattle.rules.specs.Reading.{lookChecks}
 use Rattle.rules.specs.Taking.{cellCheckAt, grown}

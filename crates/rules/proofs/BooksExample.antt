@@ -12,14 +12,14 @@ use Rattle.floats.specs.Exact.{over256}
 use Rattle.enumeration.specs.Enumerations.{selectedBy}
 use Rattle.tables.specs.Row.{byteOf, enumerationOf, badRadius, badRadii, badRow}
 use Rattle.tables.specs.Table.{rowAt, placesBefore, rowsBefore}
-use Rattle.layout.specs.Layout.{stateAt, recordAt, setCell}
+use Rattle.layout.specs.Layout.{stateFrom, recordFrom, stored}
 use Rattle.rules.specs.Taking.{claims, badCell, takeCell, refusals, arrive, after, partsFrom}
 use Rattle.rules.specs.Judging.{judgeCodeword, judgeRecord, judge}
 use Rattle.rules.specs.Tallying.{countOf}
 use Rattle.rules.specs.BooksExample.{BooksExample}
 
 pub books-example : BooksExample
-unfolding toBits round N binomial D S B sumAfter rangeSize rangeStart bitField fieldTotal distance width bitsFrom patternIndex shapeOffset shapeIndex signIndex indexFrom productIndex rangeFrom rangeOf patternOf firstAmong leftAmong shapeOf signsOf pointFrom pointWithin productPoint namesWithin productNames over256 byteOf selectedBy enumerationOf badRadius badRadii badRow rowAt placesBefore rowsBefore stateAt recordAt setCell claims badCell takeCell refusals arrive after partsFrom judgeCodeword judgeRecord judge countOf
+unfolding toBits round N binomial D S B sumAfter rangeSize rangeStart bitField fieldTotal distance width bitsFrom patternIndex shapeOffset shapeIndex signIndex indexFrom productIndex rangeFrom rangeOf patternOf firstAmong leftAmong shapeOf signsOf pointFrom pointWithin productPoint namesWithin productNames over256 byteOf selectedBy enumerationOf badRadius badRadii badRow rowAt placesBefore rowsBefore stateFrom recordFrom stored claims badCell takeCell refusals arrive after partsFrom judgeCodeword judgeRecord judge countOf
 books-example =
     record {
       claims-book = refl;

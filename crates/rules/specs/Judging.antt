@@ -112,7 +112,7 @@ reasonOrDistance judged.Missing = 0
 reasonOrDistance judged.Contested = 0
 reasonOrDistance (judged.Unreadable why) = reasonNumber why
 
--- 10, 14 and 15 are reasons in each mode, and 6 in plain mode alone; nothing is mended there. proofs/Reasons.antt has
+-- 10, 14 and 15 are reasons in each mode, and 6 in plain mode alone; nothing is mended there. Reasons of `laws` has
 -- it of every row and every cell.
 abbrev pub ReasonIn : ℕ → Reason → Type 0
 ReasonIn mode reason.NoSuchRadius = Unit {0}
@@ -145,7 +145,7 @@ pub record NamesPoint (row : List ℕ) (k n : ℕ) : Type 0 where
   pub below : n < shellTotal row k
   pub named : indexNames row k n ≡ true
 
--- what a place shows is such a point; proofs/Shows.antt has it of every cell in a good row
+-- what a place shows is such a point; Shows of `laws` has it of every cell in a good row
 abbrev pub Shows : List ℕ → Judged → Type 0
 Shows row (judged.Sound k n) = NamesPoint row k n
 Shows row (judged.Mended k n d) = NamesPoint row k n
@@ -168,7 +168,7 @@ pub record Mends (total codeword n d : ℕ) : Type 0 where
 abbrev pub totalNamed : List ℕ → List ℕ → ℕ
 totalNamed row y = shellTotal row (radiusAt row (radiusNumberIn y))
 
--- a mended place tells its codeword, and so does an unreadable one of reason 6; proofs/Shows.antt has it of every cell
+-- a mended place tells its codeword, and so does an unreadable one of reason 6; Shows of `laws` has it of every cell
 -- in a good row, y being the record that it holds
 abbrev pub ReasonTells : ℕ → ℕ → Reason → Type 0
 ReasonTells total codeword reason.NoSuchRadius = Unit {0}

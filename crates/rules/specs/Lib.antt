@@ -7,3 +7,5 @@ pub mod Tallying
 pub mod Example
 pub mod ModesExample
 pub mod BooksExample
+pub mod Layouts
+pub mod LayoutsExample

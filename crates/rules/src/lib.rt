@@ -1,5 +1,5 @@
-// The page as definitions and laws (docs/RULES.md, "The page"). No function stands here: `page` has the calls. The
-// mode and the answer of a cell, which both speak of, are declared here.
+// The page as definitions (docs/RULES.md, "The page"), tried on examples. Their laws are in `laws`. No function stands
+// here: `page` has the calls. The mode and the answer of a cell, which both speak of, are declared here.
 
 // What a reading call is given. Any other number than these two is refused.
 pub struct Mode(pub usize);

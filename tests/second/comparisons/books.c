@@ -29,6 +29,7 @@ static void compare_written_down(uint64_t books)
     own_figure("refusal of the record of a book", compare_vector(&vector), 0);
     own_figure("record of a book", memcmp(quantize(&vector).answer.record, written_down, RECORD_SIZE) != 0, 0);
     begin_books(&page, PLACES, books);
+    lay_by_chance(&page);
     own_figure("refusal of a take into a book", compare_take(&vector.table, &page, &arrival).items[0], 0);
     for (uint64_t i = 0; i < cells_of(&page); i++)
         own_figure("state of a cell", page.own[GUARDS + CELL_SIZE * i], i == CELL ? STATE_HELD : STATE_EMPTY);
@@ -87,6 +88,7 @@ static void compare_books_of(const struct table *table)
 static void compare_number(const struct table *table, uint64_t books)
 {
     begin_books(&page, judge(table->bytes, table->size).places, books);
+    lay_by_chance(&page);
     compare_books_of(table);
     for (uint64_t i = 0; i < NO_BOOKS; i++) {
         page.books = no_books[i];

@@ -1,7 +1,8 @@
 /* Books on one table are apart: from empty books on, the bytes of a book and what is answered about it depend on the
    records alone that claim a place in it. So a page that takes all that arrives, and one that takes only what claims a
    place in the book, have the same book; and whatever the cells of the other books hold, the answers about it are the
-   same. The calls are held to each other here, and not to the program's own rules. See docs/RULES.md, "Books". */
+   same. These pages have layouts of their own. The calls are held to each other here, and not to the program's own
+   rules. See docs/RULES.md, "Books". */
 
 #include "comparisons.h"
 
@@ -31,12 +32,6 @@ static uint8_t *bytes_of(struct page *page)
     return page->lent[0] + GUARDS;
 }
 
-/* The cells of the book in the copy that the calls are lent. */
-static uint8_t *book_of(struct page *page)
-{
-    return bytes_of(page) + CELL_SIZE * page->places * book;
-}
-
 static void hold_same(const char *what, const void *one, const void *other, uint64_t size)
 {
     if (memcmp(one, other, size) == 0)
@@ -46,19 +41,31 @@ static void hold_same(const char *what, const void *one, const void *other, uint
     end("other books make a difference");
 }
 
+/* The cells of the book, cell by cell, in the copies that the calls are lent. */
+static void hold_same_book(const char *what, const struct page *one, const struct page *other)
+{
+    const uint64_t first = one->places * book;
+    uint8_t cells[2][CELL_SIZE];
+    for (uint64_t number = first; number < first + one->places; number++) {
+        copy_cell(one->lent[0] + GUARDS, one->layout, cells_of(one), number, cells[0]);
+        copy_cell(other->lent[0] + GUARDS, other->layout, cells_of(other), number, cells[1]);
+        hold_same(what, cells[0], cells[1], CELL_SIZE);
+    }
+}
+
 /* Of one place, in a mode. */
 static void answer_place(struct page *page, uint64_t mode, uint64_t place, struct answers *to)
 {
     const uint64_t length = row_at(table, place)[AT_LENGTH], coordinate = place % length, size = page->size;
     const uint8_t *rows = table->bytes, *bytes = bytes_of(page);
     for (uint64_t item = 0; item < READ_ITEMS; item++) {
-        to->reads[mode][place][item] = probe_read(mode, rows, table->size, page->books, book, bytes, size, place,
-                                                  to->points[mode][place], length, item);
-        to->coefficients[mode][place][item] =
-            probe_coefficient(mode, rows, table->size, page->books, book, bytes, size, place, coordinate, item);
+        to->reads[mode][place][item] = probe_read(mode, rows, table->size, page->books, book, page->layout, bytes, size,
+                                                  place, to->points[mode][place], length, item);
+        to->coefficients[mode][place][item] = probe_coefficient(mode, rows, table->size, page->books, book,
+                                                                page->layout, bytes, size, place, coordinate, item);
     }
-    to->values[mode][place] =
-        probe_coefficient_value(mode, rows, table->size, page->books, book, bytes, size, place, coordinate);
+    to->values[mode][place] = probe_coefficient_value(mode, rows, table->size, page->books, book, page->layout, bytes,
+                                                      size, place, coordinate);
     compared.calls_of_page += 2 * READ_ITEMS + 1;
 }
 
@@ -67,10 +74,11 @@ static void answer_in(struct page *page, uint64_t mode, struct answers *to)
 {
     const uint8_t *rows = table->bytes, *bytes = bytes_of(page);
     for (uint64_t item = 0; item < ITEMS; item++)
-        to->tally[mode][item] = probe_tally(mode, rows, table->size, page->books, book, bytes, page->size, item);
+        to->tally[mode][item] =
+            probe_tally(mode, rows, table->size, page->books, book, page->layout, bytes, page->size, item);
     for (uint64_t item = 0; item < READ_ITEMS; item++)
-        to->lines[mode][item] = probe_lines(mode, rows, table->size, page->books, book, bytes, page->size, 0,
-                                            to->text[mode], sizeof to->text[mode], item);
+        to->lines[mode][item] = probe_lines(mode, rows, table->size, page->books, book, page->layout, bytes, page->size,
+                                            0, to->text[mode], sizeof to->text[mode], item);
     for (uint64_t place = 0; place < page->places; place++)
         answer_place(page, mode, place, to);
     compared.calls_of_page += ITEMS + READ_ITEMS;
@@ -121,10 +129,14 @@ static void grow(const uint64_t *places)
 static void fill_other_books(void)
 {
     copy_page(&changed, &all);
-    uint8_t *first = book_of(&changed), *behind = first + CELL_SIZE * changed.places;
-    for (uint8_t *byte = bytes_of(&changed); byte < bytes_of(&changed) + changed.size; byte++)
-        if (byte < first || byte >= behind)
-            *byte = (uint8_t)chance_below(chance_below(2) ? 4 : 256);
+    lay_by_chance(&changed);
+    for (uint64_t number = 0; number < cells_of(&changed); number++) {
+        uint8_t cell[CELL_SIZE];
+        for (uint64_t i = 0; i < CELL_SIZE; i++)
+            cell[i] = (uint8_t)chance_below(chance_below(2) ? 4 : 256);
+        if (number / changed.places != book)
+            lay_cell(bytes_of(&changed), changed.layout, cells_of(&changed), number, cell);
+    }
 }
 
 /* A further record for the book: each page answers the same, and then has the same book. */
@@ -134,12 +146,12 @@ static void take_later(const uint64_t *places)
     struct page *pages[] = {&all, &alone, &changed};
     uint64_t answers[ENTRIES(pages)];
     for (uint64_t i = 0; i < ENTRIES(pages); i++)
-        answers[i] = probe_take(table->bytes, table->size, pages[i]->books, bytes_of(pages[i]), pages[i]->size,
-                                arrival.bytes, arrival.length, 0);
+        answers[i] = probe_take(table->bytes, table->size, pages[i]->books, pages[i]->layout, bytes_of(pages[i]),
+                                pages[i]->size, arrival.bytes, arrival.length, 0);
     hold_same("a further take into the other page", answers, answers + 1, sizeof *answers);
     hold_same("a further take among cells of any bytes", answers, answers + 2, sizeof *answers);
-    hold_same("its bytes after a further take", book_of(&all), book_of(&alone), CELL_SIZE * all.places);
-    hold_same("its bytes after a further take, among others", book_of(&all), book_of(&changed), CELL_SIZE * all.places);
+    hold_same_book("its cells after a further take", &all, &alone);
+    hold_same_book("its cells after a further take, among others", &all, &changed);
     compared.calls_of_page += ENTRIES(pages);
     further_takes++;
 }
@@ -149,6 +161,8 @@ static void begin_both(uint64_t places, uint64_t books)
 {
     begin_books(&all, places, books);
     begin_books(&alone, places, books);
+    lay_by_chance(&all);
+    lay_by_chance(&alone);
 }
 
 static void compare_apart(uint64_t books)
@@ -163,7 +177,7 @@ static void compare_apart(uint64_t books)
     answer_book(&all, &of_all);
     answer_book(&alone, &of_alone);
     answer_book(&changed, &of_changed);
-    hold_same("its bytes in a page of all arrivals", book_of(&all), book_of(&alone), CELL_SIZE * all.places);
+    hold_same_book("its cells in a page of all arrivals", &all, &alone);
     hold_same("the answers in a page of all arrivals", &of_all, &of_alone, sizeof of_all);
     hold_same("the answers among cells of any bytes", &of_all, &of_changed, sizeof of_all);
     for (int i = 0; i < LATER; i++)

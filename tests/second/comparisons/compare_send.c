@@ -1,5 +1,6 @@
 /* One comparison of send with the rules in rules/sending.c, and what a page that was sent is to its receiver: taken
-   into an empty page, every place of its book is sound and has the quantized point, and the other books are empty. */
+   into an empty page of either layout, every place of its book is sound and has the quantized point, and the other
+   books are empty. */
 
 #include "../kinds/lent_send.h"
 #include "../kinds/send_kinds.h"
@@ -9,6 +10,7 @@
 
 static struct sent expected;
 static uint8_t page[CELL_SIZE * MOST_BOOKS * MOST_PLACES]; /* of the receiver */
+static uint64_t layout;                                    /* of that page, each in turn */
 
 /* The refusal of the program's own rules is returned. */
 uint64_t compare_send(const struct sending *sending)
@@ -39,7 +41,7 @@ static void compare_point_received(uint64_t mode, const struct sending *sending,
     const uint64_t length = made->shell.length, books = sending->books, book = sending->book;
     for (uint64_t item = 0; item < 2; item++)
         hold(table, item == 0 ? "refusal of read" : "answer of read", item == 0 ? 0 : SOUND,
-             probe_read(mode, table->bytes, table->size, books, book, page, size, place, point, length, item));
+             probe_read(mode, table->bytes, table->size, books, book, layout, page, size, place, point, length, item));
     for (uint64_t i = 0; i < length; i++)
         hold(table, "coordinate, as 64 bits,", (uint64_t)made->point[i], (uint64_t)point[i]);
 }
@@ -59,7 +61,7 @@ static uint64_t tally_received(uint64_t mode, const struct sending *sending, uin
                                enum reading_word word)
 {
     const struct table *table = &sending->table;
-    return probe_tally(mode, table->bytes, table->size, sending->books, book, page, size, 1 + (uint64_t)word);
+    return probe_tally(mode, table->bytes, table->size, sending->books, book, layout, page, size, 1 + (uint64_t)word);
 }
 
 /* A page that is not refused, and then what its receiver has. */
@@ -70,8 +72,9 @@ void compare_send_received(const struct sending *sending)
     const uint64_t size = CELL_SIZE * places * books;
     own_figure("refusal of a page that is right", compare_send(sending), 0);
     __builtin_memset(page, 0, size);
+    layout = (layout + 1) % LAYOUTS;
     hold(table, "refused takes", 0,
-         probe_collect(table->bytes, table->size, books, page, size, expected.records, sending->buffer_length));
+         probe_collect(table->bytes, table->size, books, layout, page, size, expected.records, sending->buffer_length));
     for (uint64_t mode = 0; mode < MODES; mode++) {
         hold(table, "sound places", places, tally_received(mode, sending, sending->book, size, SOUND));
         if (books > 1)

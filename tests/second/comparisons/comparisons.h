@@ -21,9 +21,11 @@ struct comparisons {
     uint64_t coefficients;
     uint64_t tallies;
     uint64_t lines;         /* calls of lines that are answered */
+    uint64_t conversions;
     uint64_t modes;         /* questions in both modes that are answered */
     uint64_t books_apart;   /* books that are held apart from the others of their page */
-    uint64_t calls_of_page; /* how many calls the last eight took */
+    uint64_t layouts;       /* calls that are held to each other in both layouts */
+    uint64_t calls_of_page; /* how many calls the last ten took */
     uint64_t sends;
     uint64_t refusals[MOST_REFUSAL + 1];
     uint64_t of_index[MOST_REFUSAL + 1]; /* of these those of index, and 0 for what it answers */
@@ -43,9 +45,11 @@ void read_point(struct shell shell, uint64_t index, int32_t *point);
 _Noreturn void wrong_point(struct shell shell, uint64_t index, const int32_t *point, const char *what);
 void note(uint64_t expected, uint64_t *kind);
 
-/* compare_page.c: one comparison of take or collect with the rules of the page, whose answer is returned */
+/* compare_page.c: one comparison of take, of collect or of a conversion, of which the layout of the page says which,
+   with the rules of the page, whose answer is returned */
 struct list compare_take(const struct table *table, struct page *page, const struct arrival *arrival);
 uint64_t compare_run(const struct table *table, struct page *page, const struct arrival *run);
+struct list compare_conversion(const struct conversion *asked);
 
 /* compare_reading.c: one comparison of read, coefficient, the tally or lines */
 struct list compare_read(const struct question *question);
@@ -93,6 +97,8 @@ void compare_tallies(void);
 void compare_page_checks(void);
 void compare_books(void);
 void compare_books_apart(void);
+void compare_conversions(void);
+void compare_layouts(void);
 void compare_sends(void);
 
 #endif

@@ -52,6 +52,7 @@ static void compare_codeword(uint64_t codeword)
     uint8_t cell[CELL_SIZE] = {STATE_HELD};
     write_record(cell + AT_RECORD, 0, 0, 1, codeword);
     begin_page(&page, 1);
+    lay_by_chance(&page);
     set_cell(&page, 0, cell);
     for (uint64_t mode = 0; mode < MODES; mode++)
         hold_codeword(codeword, mode);

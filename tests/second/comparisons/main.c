@@ -18,7 +18,8 @@ static void print_compared(void)
     printf("%lu taken records, %lu runs of records, ", compared.takes, compared.runs);
     printf("%lu places, %lu coefficients, ", compared.places, compared.coefficients);
     printf("%lu tallies, %lu calls of lines, ", compared.tallies, compared.lines);
-    printf("%lu books apart, %lu sent pages and every refusal\n", compared.books_apart, compared.sends);
+    printf("%lu converted pages, %lu books apart, ", compared.conversions, compared.books_apart);
+    printf("%lu sent pages and every refusal\n", compared.sends);
 }
 
 int main(void)

@@ -72,6 +72,7 @@ static void compare_set_in(uint64_t mode, const struct case_of_page *wrong, int 
 /* Take is last: it may change the page. */
 static void compare_set(const struct case_of_page *wrong, int set)
 {
+    lay_by_chance(&page);
     for (uint64_t i = 0; i < ENTRIES(any_mode); i++)
         compare_set_in(mode_at(i), wrong, set);
     own_figure("refusal of a take with faults", take_of(wrong), refusal_of_take(set));
@@ -91,6 +92,7 @@ static void compare_modes(const struct case_of_page *of, uint64_t text_length)
 /* Take is last here too. */
 static void compare_state(const struct case_of_page *right)
 {
+    lay_by_chance(&page);
     compare_modes(right, LINE_SPACE * (1 + chance_below(2)));
     take_of(right);
 }
@@ -119,6 +121,7 @@ static void compare_bad_tables(void)
         for (uint64_t row = 0; row < of.table.size / ROW_SIZE; row++)
             places += two_bytes(of.table.bytes + row * ROW_SIZE + AT_PLACES);
         page.books = books_by_chance();
+        page.layout = layout_by_chance();
         page.size = CELL_SIZE * page.books * (places < MOST_PLACES ? places : MOST_PLACES);
         of.book = is_wrong ? wrong_book(page.books) : chance_below(page.books);
         if (is_wrong)
@@ -147,6 +150,7 @@ static void compare_sizes(void)
         of.table.size = i <= MOST_SIZE ? i : cut[i - MOST_SIZE - 1];
         const struct judgment judgment = judge(of.table.bytes, of.table.size);
         begin_page(&page, judgment.faults ? FEW_CELLS : judgment.places);
+        lay_by_chance(&page);
         compare_all_calls(&of);
     }
 }
@@ -159,6 +163,7 @@ static void compare_lengths(void)
     for (int i = 0; i < LENGTH_TABLES; i++) {
         const struct case_of_page right = right_case(&page, small_table_by_chance());
         struct case_of_page of = right;
+        lay_by_chance(&page);
         for (uint64_t length = 0; length <= MOST_OUTPUT + ENTRIES(cut); length++) {
             const uint64_t more = length > MOST_OUTPUT ? cut[length - MOST_OUTPUT - 1] : 0;
             of.out_length = more ? right.out_length + more : length;

@@ -1,7 +1,7 @@
-/* The page: the whole case of docs/RULES.md, "Worked cases", also with codeword 20, and the same in rows of the other
-   selectors, in both modes; empty shapes; every codeword of small shells; and then all that is compared by chance, of
-   one book and of several, in the files that are named so. The draws begin anew here, so that they do not depend on the
-   comparisons before. */
+/* The page: the whole case of docs/RULES.md, "Worked cases", in each layout, also with codeword 20, and the same in
+   rows of the other selectors, in both modes; empty shapes; every codeword of small shells; and then all that is
+   compared by chance, of one book and of several and in each layout, in the files that are named so. The draws begin
+   anew here, so that they do not depend on the comparisons before. */
 
 #include "../kinds/page_kinds.h"
 #include "comparisons.h"
@@ -14,7 +14,10 @@ enum { SEED = 4096, LEAST_IN_BOTH_MODES = 1500000, LEAST_LINES = 150000 };
 /* `records.bin`, what the page holds then, and how its places are read by each selector in mending mode; last place 1
    with codeword 20. In plain mode the mended ones are unreadable 6. */
 static const uint8_t records_bin[] = {0, 0, 0, 1, 0, 0, 0, 0x05, 0, 1, 0, 1, 0, 0, 0, 0x12};
-static const uint8_t page_wanted[] = {1, 0, 0, 0, 1, 0, 0, 0, 0x05, 1, 0, 1, 0, 1, 0, 0, 0, 0x12};
+static const uint8_t page_wanted[LAYOUTS][18] = {
+    [CELL_BY_CELL] = {1, 0, 0, 0, 1, 0, 0, 0, 0x05, 1, 0, 1, 0, 1, 0, 0, 0, 0x12},
+    [STATES_FIRST] = {1, 1, 0, 0, 0, 1, 0, 0, 0, 0x05, 0, 1, 0, 1, 0, 0, 0, 0x12},
+};
 static const uint64_t tally_wanted[MODES][ITEMS] = {[PLAIN_MODE] = {0, 1, 0, 0, 0, 1}, [MENDING_MODE] = {0, 1, 1, 0, 0, 0}};
 static const struct {
     struct list list;
@@ -83,6 +86,29 @@ static void compare_whole_place(uint64_t place, uint64_t number)
     compare_both_lines(&question);
 }
 
+/* The page of the whole case in its layout, and the other one, which is its conversion. */
+static void hold_page(void)
+{
+    const struct conversion asked = {&table, &page, sizeof *page_wanted};
+    uint8_t converted[sizeof *page_wanted];
+    own_figure("page of the whole case",
+               memcmp(page.wanted + GUARDS, page_wanted[page.layout], sizeof *page_wanted) != 0, 0);
+    own_figure("refusal of its conversion", compare_conversion(&asked).items[0], 0);
+    convert(&asked, converted);
+    own_figure("its conversion", memcmp(converted, page_wanted[1 - page.layout], sizeof *page_wanted) != 0, 0);
+}
+
+/* The bytes cell by cell, as if the states were first: the cell of place 0 has row 1. */
+static void compare_wrong_layout(void)
+{
+    struct arrival first = {.length = RECORD_SIZE};
+    __builtin_memcpy(first.bytes, records_bin, RECORD_SIZE);
+    page.layout = STATES_FIRST;
+    begin_page(&page, PLACES);
+    fill_page(&page, page_wanted[CELL_BY_CELL], sizeof *page_wanted);
+    own_figure("refusal in the wrong layout", compare_take(&table, &page, &first).items[0], 12);
+}
+
 /* The whole case holds the program's own rules to docs/RULES.md too. */
 static void compare_whole_case(void)
 {
@@ -91,7 +117,10 @@ static void compare_whole_case(void)
         run.bytes[i] = records_bin[i];
     begin_page(&page, PLACES);
     own_figure("refused takes of the whole case", compare_run(&table, &page, &run), 0);
-    own_figure("page of the whole case", memcmp(cell_at(&page, 0), page_wanted, sizeof page_wanted) != 0, 0);
+    hold_page();
+    run.length = RECORD_SIZE;
+    own_figure("refusal of the first record again", compare_take(&table, &page, &run).items[0], 0);
+    hold_page();
     for (uint64_t place = 0; place < PLACES; place++)
         compare_whole_place(place, place);
     for (uint64_t mode = 0; mode < MODES; mode++) {
@@ -112,12 +141,14 @@ static void compare_codeword_20(void)
 void compare_pages(void)
 {
     chance_from(SEED);
-    for (uint8_t selector = 0; selector < SELECTORS; selector++) {
-        table = pairing_bin;
-        table.bytes[AT_SELECTOR] = selector;
+    table = pairing_bin;
+    for (uint8_t i = 0; i < SELECTORS * LAYOUTS; i++) {
+        table.bytes[AT_SELECTOR] = i / LAYOUTS;
+        page.layout = i % LAYOUTS;
         compare_whole_case();
         compare_codeword_20();
     }
+    compare_wrong_layout();
     compare_empty_shapes();
     compare_small_shells();
     compare_takes();
@@ -127,6 +158,8 @@ void compare_pages(void)
     compare_page_checks();
     compare_books();
     compare_books_apart();
+    compare_conversions();
+    compare_layouts();
     require_page_kinds();
     require(compared.modes, LEAST_IN_BOTH_MODES, "answers of a reader", "in both modes");
     require(compared.lines, LEAST_LINES, "calls of lines", "that are answered");

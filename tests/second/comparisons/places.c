@@ -61,6 +61,7 @@ static void compare_codewords(struct shell shell)
     while (table.bytes[row * ROW_SIZE + AT_RADII + number] != shell.radius)
         number++;
     pages_by_chance(&page, &table, books_by_chance(), 8);
+    lay_by_chance(&page);
     do
         field = some_field(&page, &table);
     while (row_of(&table, place_in(field)) != row);
@@ -107,6 +108,7 @@ void compare_places(void)
     for (int i = 0; i < TABLES; i++) {
         const struct table table = page_table_by_chance();
         pages_by_chance(&page, &table, books_for(&table), 8);
+        lay_by_chance(&page);
         for (int j = 0; j < QUESTIONS_OF_TABLE; j++)
             compare_question(&table);
     }

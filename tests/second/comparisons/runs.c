@@ -129,6 +129,7 @@ static void compare_runs_of(const struct table *table, int is_from_empty, int ha
     pages_by_chance(&start, table, books_by_chance(), has_faults ? 4 : 0);
     if (is_from_empty)
         begin_books(&start, start.places, start.filled);
+    lay_by_chance(&start);
     copy_page(&page, &start);
     for (int i = 0; i < RUNS_OF_TABLE; i++) {
         const struct arrival run = run_by_chance(table);
@@ -140,12 +141,13 @@ static void compare_runs_of(const struct table *table, int is_from_empty, int ha
 
 /* A run of so many takes that their number needs more than two bytes, by one call with each copy of the page. It is
    made of pieces, of which the program's own rules take one after the other. */
-static void compare_long_run(uint64_t books)
+static void compare_long_run(uint64_t books, uint64_t layout)
 {
     static uint8_t bytes[PIECES * MOST_RUN];
     const struct table table = small_table_by_chance();
     uint64_t refusals = 0;
     begin_books(&page, judge(table.bytes, table.size).places, books);
+    lay_out(&page, layout);
     for (int i = 0; i < PIECES; i++) {
         const struct arrival piece = run_of(&table, i % 64 == 0 ? CLEAN : i % 2 ? OUTSIDE : OF_OTHER_ROWS, MOST_RUN);
         refusals += collect(&table, &page, &piece);
@@ -153,8 +155,8 @@ static void compare_long_run(uint64_t books)
             bytes[i * MOST_RUN + j] = piece.bytes[j];
     }
     for (int lent = 0; lent < 2; lent++) {
-        const uint64_t got = probe_collect(table.bytes, table.size, books, page.lent[lent] + GUARDS, page.size, bytes,
-                                           sizeof bytes);
+        const uint64_t got = probe_collect(table.bytes, table.size, books, layout, page.lent[lent] + GUARDS, page.size,
+                                           bytes, sizeof bytes);
         const int is_page_right = is_page_as_it_must_be(&page, lent);
         if (got == refusals && is_page_right)
             continue;
@@ -174,6 +176,6 @@ void compare_runs(void)
         compare_runs_of(&table, i % 3 == 0, i % 3 == 1);
     }
     for (uint64_t i = 0; i < LONG_RUNS; i++)
-        compare_long_run(1 + i);
+        compare_long_run(1 + i, i % LAYOUTS);
     printf("runs: %d by chance, each in two orders, and %d long ones\n", TABLES * RUNS_OF_TABLE, LONG_RUNS);
 }

@@ -48,6 +48,7 @@ static void compare_small_shell(struct shell shell)
     if (power > MOST_POWER)
         return;
     begin_page(&page, 1);
+    lay_by_chance(&page);
     for (uint64_t codeword = 0; codeword < power + BEHIND; codeword++)
         compare_codeword(&table, number, codeword, &plain);
     own_figure("sound codewords of a small shell", plain.sound, points_of(shell));

@@ -1,7 +1,7 @@
-/* Taking records by chance into pages of good tables, of one book or of several: into cells of every state, records
-   that are held already, that differ in one byte or in several, that are of another row or of another book, or whose
-   place or book is not there, and lengths and numbers of books that are wrong. See docs/RULES.md, "The page" and
-   "Books". */
+/* Taking records by chance into pages of good tables, of one book or of several and of each layout: into cells of every
+   state, records that are held already, that differ in one byte or in several, that are of another row or of another
+   book, or whose place or book is not there, and lengths and numbers of books that are wrong. See docs/RULES.md, "The
+   page", "States first" and "Books". */
 
 #include "../draws/page_draws.h"
 #include "comparisons.h"
@@ -37,6 +37,7 @@ static void compare_takes_of(const struct table *table)
     pages_by_chance(&page, table, books_for(table), 8);
     if (!is_drawn)
         begin_books(&page, page.places, page.filled);
+    lay_by_chance(&page);
     for (int i = 0; i < TAKES_OF_TABLE; i++) {
         const uint64_t field = some_field(&page, table);
         if (is_drawn && chance_below(4))

@@ -28,6 +28,7 @@ static void compare_alike(enum reading_word word)
     for (uint64_t row = 0; row < table.size / ROW_SIZE; row++)
         plant_shell(&table, row, (struct shell){3, 4, chance_below(SELECTORS)});
     pages_by_chance(&page, &table, books_by_chance(), 4);
+    lay_by_chance(&page);
     const struct question question = {0, &table, &page, chance_below(page.filled), 0, 0};
     for (uint64_t place = 0; place < page.places; place++)
         draw_cell_with(&table, place_field(question.book, place), word);
@@ -51,6 +52,7 @@ static void compare_with_faults(const struct table *table)
 {
     const uint64_t books = books_by_chance(), book = chance_below(books);
     pages_by_chance(&page, table, books, 0);
+    lay_by_chance(&page);
     if (books > 1)
         spoil_place(table, place_field((book + 1) % books, some_place(table)));
     const struct question whole = {0, table, &page, book, 0, 0}, outside = {0, table, &page, wrong_book(books), 0, 0};
@@ -76,6 +78,7 @@ static void compare_large(void)
     const struct table table = large_table_by_chance();
     const uint64_t books = 1 + chance_below(2), book = chance_below(books);
     pages_by_chance(&page, &table, books, chance_below(5) ? 0 : MOST_PLACES);
+    lay_by_chance(&page);
     compare_both_tallies(&(struct question){0, &table, &page, book, 0, 0});
     const uint64_t from = chance_below(2) ? 0 : some_place(&table);
     if (chance_below(16) == 0)

@@ -43,6 +43,13 @@ uint64_t some_field(const struct page *page, const struct table *table);
 uint64_t field_past_end(const struct page *page);
 void change_book(uint8_t *record);
 
+/* layouts.c: numbers for the layouts, and pages of any bytes */
+enum { LAYOUT_NUMBERS = 9 };
+extern const uint64_t layouts[LAYOUT_NUMBERS];
+uint64_t layout_by_chance(void);
+void lay_by_chance(struct page *page);
+void cells_of_any_bytes(struct page *page);
+
 /* page_chance.c: tables, cells, pages and records; a cell is named by a place field */
 struct table small_table_by_chance(void);
 struct table page_table_by_chance(void);

@@ -16,21 +16,24 @@ typedef uint32_t quantize_call(const uint8_t *table, uint64_t table_length, uint
 typedef uint64_t quantize_value_call(const uint8_t *table, uint64_t table_length, uint64_t books, uint64_t book,
                                      uint64_t place, const float *coefficients, uint64_t coefficients_length,
                                      uint8_t *record, uint64_t record_length);
-typedef uint64_t take_call(const uint8_t *table, uint64_t table_length, uint64_t books, uint8_t *page,
+typedef uint64_t take_call(const uint8_t *table, uint64_t table_length, uint64_t books, uint64_t layout, uint8_t *page,
                            uint64_t page_length, const uint8_t *record, uint64_t record_length, uint64_t which);
 typedef uint64_t read_call(uint64_t mode, const uint8_t *table, uint64_t table_length, uint64_t books, uint64_t book,
-                           const uint8_t *page, uint64_t page_length, uint64_t place, int32_t *out, uint64_t out_length,
-                           uint64_t which);
+                           uint64_t layout, const uint8_t *page, uint64_t page_length, uint64_t place, int32_t *out,
+                           uint64_t out_length, uint64_t which);
 typedef uint64_t coefficient_call(uint64_t mode, const uint8_t *table, uint64_t table_length, uint64_t books,
-                                  uint64_t book, const uint8_t *page, uint64_t page_length, uint64_t place,
-                                  uint64_t coordinate, uint64_t which);
+                                  uint64_t book, uint64_t layout, const uint8_t *page, uint64_t page_length,
+                                  uint64_t place, uint64_t coordinate, uint64_t which);
 typedef float value_call(uint64_t mode, const uint8_t *table, uint64_t table_length, uint64_t books, uint64_t book,
-                         const uint8_t *page, uint64_t page_length, uint64_t place, uint64_t coordinate);
+                         uint64_t layout, const uint8_t *page, uint64_t page_length, uint64_t place,
+                         uint64_t coordinate);
 typedef uint64_t tally_call(uint64_t mode, const uint8_t *table, uint64_t table_length, uint64_t books, uint64_t book,
-                            const uint8_t *page, uint64_t page_length, uint64_t which);
+                            uint64_t layout, const uint8_t *page, uint64_t page_length, uint64_t which);
 typedef uint64_t lines_call(uint64_t mode, const uint8_t *table, uint64_t table_length, uint64_t books, uint64_t book,
-                            const uint8_t *page, uint64_t page_length, uint64_t from, uint8_t *out, uint64_t out_length,
-                            uint64_t which);
+                            uint64_t layout, const uint8_t *page, uint64_t page_length, uint64_t from, uint8_t *out,
+                            uint64_t out_length, uint64_t which);
+typedef uint64_t converting_call(const uint8_t *table, uint64_t table_length, uint64_t books, const uint8_t *page,
+                                 uint64_t page_length, uint8_t *converted, uint64_t converted_length, uint64_t which);
 
 /* lent_pointing.c: the name is what a difference is told with; an index that is expected may be REFUSED and a refusal
    number; nothing is said of the point where there is a refusal */
@@ -46,8 +49,8 @@ struct quantize_calls {
 };
 void expect_quantizing(const char *name, struct quantize_calls calls, const struct vector *vector, const struct answer *expected);
 
-/* lent_taking.c, lent_reading.c and lent_lines.c: so is the name here; how many calls it took is returned. The page's
-   own copy is what the page must hold after the call. */
+/* lent_taking.c, lent_reading.c, lent_lines.c and lent_conversion.c: so is the name here; how many calls it took is
+   returned. The copy that is wanted of a page is what the page must hold after the call. */
 uint64_t expect_take(const char *name, take_call *call, const struct taking *taking);
 uint64_t expect_read(const char *name, read_call *call, const struct question *question, struct list expected, const int32_t *point);
 uint64_t expect_coefficient(const char *name, coefficient_call *call, value_call *value, const struct question *question,
@@ -55,5 +58,7 @@ uint64_t expect_coefficient(const char *name, coefficient_call *call, value_call
 uint64_t expect_tally(const char *name, tally_call *call, const struct question *question, struct list expected);
 uint64_t expect_lines(const char *name, lines_call *call, const struct question *question, struct list expected,
                       const struct written *written);
+uint64_t expect_convert(const char *name, converting_call *call, const struct conversion *asked, struct list expected,
+                        const uint8_t *converted);
 
 #endif

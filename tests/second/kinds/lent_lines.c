@@ -43,8 +43,9 @@ static uint64_t call_lines(const char *name, lines_call *call, const struct ques
         const uint64_t which = i < ITEMS_OF_LINES ? i : any_item();
         fill(lent, filled(question));
         const uint64_t got = call(question->mode, lent_table(question->table, &table, by_null), question->table->size,
-                                  page->books, question->book, lent_page(page, by_null), page->size, question->place,
-                                  by_null && question->number == 0 ? 0 : lent + GUARDS, question->number, which);
+                                  page->books, question->book, page->layout, lent_page(page, by_null), page->size,
+                                  question->place, by_null && question->number == 0 ? 0 : lent + GUARDS,
+                                  question->number, which);
         if (got != item_of(expected, which)) {
             print_question(name, question, "buffer of");
             wrong_item(expected, which, got);

@@ -20,7 +20,7 @@ void print_book_asked(const char *name, const struct question *question)
 {
     print_table(name, question->table);
     printf(", mode %lu, book %lu of %lu, ", question->mode, question->book, question->page->books);
-    printf("page of %lu bytes", question->page->size);
+    printf("layout %lu, page of %lu bytes", question->page->layout, question->page->size);
 }
 
 void print_question(const char *name, const struct question *question, const char *what)

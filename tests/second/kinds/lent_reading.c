@@ -40,8 +40,9 @@ static uint64_t call_read(const char *name, read_call *call, const struct questi
         const uint64_t which = i < ITEMS_OF_READING ? i : any_item();
         struct point_room room = garbage();
         const uint64_t got = call(question->mode, lent_table(question->table, &table, by_null), question->table->size,
-                                  page->books, question->book, lent_page(page, by_null), page->size, question->place,
-                                  by_null && question->number == 0 ? 0 : room.cells + GUARDS, question->number, which);
+                                  page->books, question->book, page->layout, lent_page(page, by_null), page->size,
+                                  question->place, by_null && question->number == 0 ? 0 : room.cells + GUARDS,
+                                  question->number, which);
         if (got != item_of(expected, which)) {
             print_question(name, question, "output of");
             wrong_item(expected, which, got);
@@ -70,8 +71,8 @@ static uint64_t call_coefficient(const char *name, coefficient_call *call, const
     for (uint64_t i = 0; i <= ITEMS_OF_READING; i++) {
         const uint64_t which = i < ITEMS_OF_READING ? i : any_item();
         const uint64_t got = call(question->mode, lent_table(question->table, &table, by_null), question->table->size,
-                                  page->books, question->book, lent_page(page, by_null), page->size, question->place,
-                                  question->number, which);
+                                  page->books, question->book, page->layout, lent_page(page, by_null), page->size,
+                                  question->place, question->number, which);
         if (got != item_of(expected, which)) {
             print_question(name, question, "coordinate");
             wrong_item(expected, which, got);
@@ -86,8 +87,8 @@ static uint64_t call_value(const char *name, value_call *call, const struct ques
     struct table_room table = table_among_guards(question->table);
     const struct page *page = question->page;
     const uint32_t got = bits_of_float(call(question->mode, lent_table(question->table, &table, by_null), question->table->size,
-                                            page->books, question->book, lent_page(page, by_null), page->size,
-                                            question->place, question->number));
+                                            page->books, question->book, page->layout, lent_page(page, by_null),
+                                            page->size, question->place, question->number));
     if (got != bits) {
         print_question(name, question, "coordinate");
         printf(", the value: expected the bits %08x, got %08x\n", bits, got);
@@ -116,7 +117,8 @@ static uint64_t call_tally(const char *name, tally_call *call, const struct ques
     for (uint64_t i = 0; i <= ITEMS; i++) {
         const uint64_t which = i < ITEMS ? i : any_item();
         const uint64_t got = call(question->mode, lent_table(question->table, &table, by_null), question->table->size,
-                                  page->books, question->book, lent_page(page, by_null), page->size, which);
+                                  page->books, question->book, page->layout, lent_page(page, by_null), page->size,
+                                  which);
         if (got != item_of(expected, which)) {
             print_book_asked(name, question);
             wrong_item(expected, which, got);

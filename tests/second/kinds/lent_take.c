@@ -28,7 +28,7 @@ void print_taking(const char *call, const struct taking *taking)
 {
     const struct arrival *arrival = taking->arrival;
     print_table(call, taking->table);
-    printf(", %lu books, page of %lu bytes", taking->page->books, taking->page->size);
+    printf(", %lu books, layout %lu, page of %lu bytes", taking->page->books, taking->page->layout, taking->page->size);
     if (taking->before)
         print_bytes(", its cell before", taking->before, CELL_SIZE);
     printf(", lent %lu bytes", arrival->length);

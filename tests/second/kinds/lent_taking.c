@@ -13,7 +13,7 @@ static void ask_take(const char *name, take_call *call, const struct taking *tak
     struct arrival_room room = arrival_among_guards(arrival);
     struct page *page = taking->page;
     const uint64_t got = call(lent_table(taking->table, &table, by_null), taking->table->size, page->books,
-                              by_null && page->size == 0 ? 0 : page->lent[lent] + GUARDS, page->size,
+                              page->layout, by_null && page->size == 0 ? 0 : page->lent[lent] + GUARDS, page->size,
                               by_null && arrival->length == 0 ? 0 : room.bytes, arrival->length, which);
     if (got != item_of(taking->expected, which)) {
         print_taking(name, taking);

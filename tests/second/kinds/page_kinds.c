@@ -8,10 +8,12 @@
 #include <stdio.h>
 
 /* The second is wanted for each shell, for each state, for each mode that is none, for each number of books that there
-   may not be, and for large numbers of places. */
+   may not be, for large numbers of places, for each kind in each layout, and for each number of a layout. */
 enum { LEAST = 300, LEAST_OF_EACH = 100, RECORD_LENGTHS = MOST_TAKEN + 1 };
 
-static uint64_t kinds[COUNTED_FOR][PAGE_KINDS], faults[COUNTED_FOR][FAULTS], states[COUNTED_FOR][256];
+static uint64_t in_layout; /* what is noted */
+static uint64_t kinds[LAYOUTS][COUNTED_FOR][PAGE_KINDS], answered[COUNTED_FOR][LAYOUT_NUMBERS];
+static uint64_t faults[COUNTED_FOR][FAULTS], states[COUNTED_FOR][256];
 static uint64_t other_bytes[RECORD_SIZE], record_lengths[RECORD_LENGTHS], remainders[RECORD_SIZE];
 static uint64_t shells[COUNTED_FOR][READINGS + 2][SELECTORS][MOST_LENGTH + 1][MOST_RADIUS + 1];
 static uint64_t selected[COUNTED_FOR][READINGS][SELECTORS];
@@ -31,9 +33,27 @@ uint64_t mode_of(enum page_call call)
     return call >= PLAIN_READ && call < PAGE_CALLS ? PLAIN_MODE : MENDING_MODE;
 }
 
+static int is_conversion(enum page_call call)
+{
+    return call == MAKE_STATES_FIRST || call == MAKE_CELL_BY_CELL;
+}
+
 void note_page(enum page_call call, enum page_kind kind, int is_there)
 {
-    kinds[call][kind] += is_there != 0;
+    kinds[in_layout == CELL_BY_CELL ? CELL_BY_CELL : STATES_FIRST][call][kind] += is_there != 0;
+}
+
+/* That of the page, by the number that the call is given. */
+void note_layout(uint64_t layout)
+{
+    in_layout = layout;
+}
+
+/* A call that is not refused, with that number for the layout. */
+void note_answered(enum page_call call)
+{
+    for (uint64_t i = 0; i < LAYOUT_NUMBERS; i++)
+        answered[call][i] += in_layout == layouts[i];
 }
 
 void note_fault(enum page_call call, enum fault fault)
@@ -167,7 +187,7 @@ static void require_selectors(enum page_call call)
 {
     static const char *const places[SELECTORS] = {"places of rows of selector 0 that are", "places of rows of selector 1 that are",
                                                   "places of rows of selector 2 that are"};
-    for (int i = 0; call < PAGE_CALLS && call != COLLECT && i < READINGS * SELECTORS; i++)
+    for (int i = 0; call < PAGE_CALLS && call != COLLECT && !is_conversion(call) && i < READINGS * SELECTORS; i++)
         if (is_any(call, i / SELECTORS))
             require(selected[call][i / SELECTORS][i % SELECTORS], LEAST, places[i % SELECTORS],
                     reading_words[i / SELECTORS]);
@@ -179,8 +199,9 @@ void require_page_kinds_of(enum page_call call, struct required *so_far)
 {
     for (int kind = 0; kind < PAGE_KINDS; kind++)
         if (page_names[kind].wanted_for >> call & 1) {
-            require(kinds[call][kind], LEAST, page_calls[call], page_names[kind].what);
-            so_far->least = kinds[call][kind] < so_far->least ? kinds[call][kind] : so_far->least;
+            const uint64_t compared = kinds[CELL_BY_CELL][call][kind] + kinds[STATES_FIRST][call][kind];
+            require(compared, LEAST, page_calls[call], page_names[kind].what);
+            so_far->least = compared < so_far->least ? compared : so_far->least;
             so_far->kinds++;
         }
     for (uint64_t fault = 0; call < PAGE_CALLS && fault < FAULTS; fault++)
@@ -191,12 +212,36 @@ void require_page_kinds_of(enum page_call call, struct required *so_far)
     require_numbers(call);
 }
 
+/* Each kind that is wanted for a call, in one layout. */
+static void require_in_layout(enum page_call call, int layout)
+{
+    for (int kind = 0; kind < PAGE_KINDS; kind++) {
+        if ((page_names[kind].wanted_for >> call & 1) == 0 || kinds[layout][call][kind] >= LEAST_OF_EACH)
+            continue;
+        printf("layout %d: ", layout);
+        require(kinds[layout][call][kind], LEAST_OF_EACH, page_calls[call], page_names[kind].what);
+    }
+}
+
+/* Each kind in each layout, and each number of a layout. A conversion is from one layout alone. */
+static void require_layouts(enum page_call call)
+{
+    for (int layout = 0; layout < LAYOUTS; layout++)
+        require_in_layout(call, layout);
+    for (uint64_t i = 0; call < PAGE_CALLS && i < LAYOUT_NUMBERS; i++)
+        require_number(answered[call][i], LEAST_OF_EACH, "calls answered with the layout", layouts[i]);
+}
+
 void require_page_kinds(void)
 {
     struct required so_far = {0, UINT64_MAX};
-    for (enum page_call call = TAKE; call < COUNTED_FOR; call++)
+    for (enum page_call call = TAKE; call < COUNTED_FOR; call++) {
         require_page_kinds_of(call, &so_far);
+        if (!is_conversion(call))
+            require_layouts(call);
+    }
     for_each_numbering(require_readings);
-    printf("kinds of the page: %lu at least %lu times each, each usable shell at least %d times with each selector\n",
-           so_far.kinds, so_far.least, LEAST_OF_EACH);
+    printf("kinds of the page: %lu at least %lu times each, and %d times in each layout, ", so_far.kinds, so_far.least,
+           LEAST_OF_EACH);
+    printf("each usable shell at least %d times with each selector\n", LEAST_OF_EACH);
 }

@@ -11,6 +11,8 @@
 enum page_call {
     TAKE,
     COLLECT,
+    MAKE_STATES_FIRST, /* the conversions, by the layout that they make */
+    MAKE_CELL_BY_CELL,
     READ,
     COEFFICIENT,
     TALLY,
@@ -212,6 +214,14 @@ enum page_kind {
     FAULT_BEHIND_FIRST,
     FAULT_BEHIND_LINES,
     TEXT_OF_6,
+    /* conversions */
+    BUFFER_SHORT_1,
+    BUFFER_LONG_1,
+    BUFFER_SHORT_9,
+    BUFFER_LONG_9,
+    NO_BUFFER,
+    BUFFER_CUT,
+    SIZES_ALIKE,
     PAGE_KINDS
 };
 
@@ -239,10 +249,13 @@ struct page_name {
 extern const char *const page_calls[COUNTED_FOR];
 extern const struct page_name page_names[PAGE_KINDS];
 
-/* page_kinds.c: a call with a mode is noted as the call in mending mode, and the mode then says which it is */
+/* page_kinds.c: a call with a mode is noted as the call in mending mode, and the mode then says which it is; what is
+   noted is counted for the layout that was noted last */
 enum page_call call_in(enum page_call call, uint64_t mode);
 uint64_t mode_of(enum page_call call);
 void note_page(enum page_call call, enum page_kind kind, int is_there);
+void note_layout(uint64_t layout);
+void note_answered(enum page_call call);
 void note_fault(enum page_call call, enum fault fault);
 void note_state(enum page_call call, uint8_t state);
 void note_other_byte(uint64_t byte);
@@ -274,6 +287,9 @@ int is_no_mode_or_books(enum page_call call, const struct question *question, st
 void note_take(const struct table *table, const struct page *page, const struct arrival *arrival, const uint8_t *before,
                struct list expected);
 void note_run(const struct table *table, const struct page *page, const struct arrival *run, uint64_t refusals);
+
+/* conversion_notes.c: what one comparison of a conversion tells */
+void note_converted(enum page_call call, const struct conversion *asked, struct list expected);
 
 /* reading_notes.c: what one comparison of each other call tells */
 void note_reading(enum page_call call, const struct question *question, struct list expected);

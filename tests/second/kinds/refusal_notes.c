@@ -84,6 +84,8 @@ void note_refusal(enum page_call call, const struct question *question, struct l
     note_page(call, REFUSED_12, refusal == 12);
     note_page(call, REFUSED_13, refusal == 13);
     note_page(call, REFUSED_16, refusal == 16);
+    if (refusal == 0)
+        note_answered(call);
     if (refusal == 7)
         note_bad_table(call, question);
     if (refusal == 4)
@@ -176,10 +178,12 @@ static void note_mode(enum page_call call, const struct question *question)
     note_page(as, ONLY_16, !is_17 && !is_any_reason(reasons));
 }
 
-/* Whether a call that looks is refused with 16 or 17, which are noted then; another answer is noted by its number. */
+/* Whether a call that looks is refused with 16 or 17, which are noted then; another answer is noted by its number. All
+   that is noted of the call comes behind this. */
 int is_no_mode_or_books(enum page_call call, const struct question *question, struct list expected)
 {
     const uint64_t refusal = expected.items[0];
+    note_layout(question->page->layout);
     if (refusal == 16) {
         note_mode(call, question);
         return 1;

@@ -89,6 +89,7 @@ void note_take(const struct table *table, const struct page *page, const struct 
     const struct question named = {.table = table, .page = page, .book = book_in(field), .place = place_in(field)};
     const int is_7 = judge(table->bytes, table->size).faults != 0, is_other_length = arrival->length != RECORD_SIZE;
     const struct reasons reasons = is_7 ? (struct reasons){.is_7 = 1} : reasons_of_take(&named, arrival, before);
+    note_layout(page->layout);
     note_refusal(TAKE, &named, expected);
     note_page(TAKE, BOTH_7_AND_9, refusal == 7 && !is_other_length && arrival->bytes[AT_ROW] >= MOST_ROWS);
     if (refusal == 17)
@@ -136,6 +137,7 @@ void note_run(const struct table *table, const struct page *page, const struct a
     const uint64_t parts = (run->length + RECORD_SIZE - 1) / RECORD_SIZE;
     const uint64_t of_page = judge(table->bytes, table->size).faults ? 7 : is_wrong_page(page) ? 4 : 0;
     const uint64_t refusal = is_no_number_of_books(page->books) ? 17 : of_page;
+    note_layout(page->layout);
     note_refusal(COLLECT, &(struct question){.table = table, .page = page}, (struct list){{refusal}});
     if (refusal != 0)
         return;

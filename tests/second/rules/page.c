@@ -133,10 +133,12 @@ struct list take(const struct table *table, struct page *page, const struct arri
         return refused(8, 0);
     if (is_foreign(table, arrival->bytes))
         return refused(9, 0);
-    uint8_t *cell = page->own + GUARDS + CELL_SIZE * (book * judgment.places + place);
+    const uint64_t number = book * judgment.places + place;
+    uint8_t *cell = page->own + GUARDS + CELL_SIZE * number;
     if (is_at_fault(table, field, cell))
         return refused(12, 0);
     claim(cell, arrival->bytes);
+    lay_own_cell(page, number);
     return refused(0, 0);
 }
 

@@ -21,19 +21,25 @@ enum {
 enum { AT_STATE = 0, AT_RECORD = 1 };
 enum { STATE_EMPTY = 0, STATE_HELD = 1, STATE_CONTESTED = 2 };
 
+/* The layouts, in either of which a page may be kept. A call may be given any number: all above 0 are states first. */
+enum { CELL_BY_CELL, STATES_FIRST, LAYOUTS };
+
 /* The modes: whether what is past the end is mended. A call may be given any number, and refuses the others. */
 enum { PLAIN_MODE, MENDING_MODE, MODES };
 
 /* The five answers. */
 enum reading_word { SOUND, MENDED, MISSING, CONTESTED, UNREADABLE, READINGS };
 
-/* A page in three copies: what it must hold, and two that the calls are lent. Each begins behind the guards. */
+/* A page in four copies: what it must hold, cell by cell, and again in the layout of the page; and two that the calls
+   are lent, which have that layout too. Each begins behind the guards. */
 struct page {
     uint64_t places; /* of each book */
     uint64_t filled; /* how many books have cells */
     uint64_t books;  /* how many there are, as the calls are told it; it may be any number */
     uint64_t size;   /* in bytes, as the calls are told it; it may be any number */
+    uint64_t layout; /* as the calls are told it; a new page keeps that of the page before */
     uint8_t own[PAGE_ROOM];
+    uint8_t wanted[PAGE_ROOM];
     uint8_t lent[2][PAGE_ROOM];
 };
 
@@ -53,6 +59,14 @@ struct question {
     uint64_t number; /* read: the length of the output; coefficient: the coordinate; lines: the length of the buffer */
 };
 
+/* What a conversion is asked: a page, and the length of the buffer for it in the other layout, which may be any
+   number. */
+struct conversion {
+    const struct table *table;
+    const struct page *page;
+    uint64_t length;
+};
+
 /* The text that lines writes. */
 enum { LINE_SPACE = 256 /* the room that is asked for each line */, TEXT_ROOM = LINE_SPACE * MOST_PLACES };
 struct written {
@@ -69,13 +83,21 @@ struct reading {
     uint64_t distance; /* of the codeword of a mended one, or of one that is unreadable for reason 6, else 0 */
 };
 
-/* copies.c: a page in three copies, of one book or of several; a cell is named by a place field */
+/* layouts.c: where a cell stands in a page of so many cells, by its number; and what the conversions must answer, and
+   make of a page */
+void lay_cell(uint8_t *page, uint64_t layout, uint64_t cells, uint64_t number, const uint8_t *cell);
+void copy_cell(const uint8_t *page, uint64_t layout, uint64_t cells, uint64_t number, uint8_t *cell);
+struct list convert(const struct conversion *asked, uint8_t *converted);
+
+/* copies.c: a page in four copies, of one book or of several; a cell is named by a place field */
 uint64_t cells_of(const struct page *page);
 uint64_t right_size(const struct page *page);
 uint64_t room_used(const struct page *page);
 void begin_books(struct page *page, uint64_t places, uint64_t books);
 void begin_page(struct page *page, uint64_t places);
 void fill_page(struct page *page, const uint8_t *bytes, uint64_t size);
+void lay_out(struct page *page, uint64_t layout);
+void lay_own_cell(struct page *page, uint64_t number);
 void copy_page(struct page *to, const struct page *from);
 int has_cell(const struct page *page, uint64_t field);
 void set_cell(struct page *page, uint64_t field, const uint8_t *cell);

@@ -1,6 +1,7 @@
 // The records, taken block by block, 65,536 bytes each but the last, a whole number of records.
 use files::inner::reading::fill;
 use files::inner::reading::open;
+use layout::Layout;
 use page::collect;
 use tables::Books;
 use tables::ONE_BOOK;
@@ -24,11 +25,17 @@ pub fn take_records(table: &[u8], page: &mut [u8]) -> u64
     let mut turns: u64 = 0;
     let mut n = fill(fd, path, &mut block);
     while n == 65536 && turns < MOST_TURNS {
-        refused += collect(table, Books(ONE_BOOK), page, &block) as u64;
+        refused += collect(table, Books(ONE_BOOK), Layout::CellByCell, page, &block) as u64;
         n = fill(fd, path, &mut block);
         turns += 1;
     }
-    refused += collect(table, Books(ONE_BOOK), page, &block[..n]) as u64;
+    refused += collect(
+        table,
+        Books(ONE_BOOK),
+        Layout::CellByCell,
+        page,
+        &block[..n],
+    ) as u64;
     libc::close(fd);
     refused
 }

@@ -1,6 +1,7 @@
 // The listing, printed a block at a time in mending mode. Where one cannot be written, nothing more is printed.
 use files::inner::printing::print_refused;
 use files::inner::printing::put;
+use layout::Layout;
 use page::Tallied;
 use page::tally;
 use report::Lined;
@@ -24,6 +25,7 @@ pub fn print_page(table: &[u8], page: &[u8], places: usize, refused: u64) {
             table,
             Books(ONE_BOOK),
             Book(ONLY_BOOK),
+            Layout::CellByCell,
             page,
             from,
             &mut out,
@@ -45,7 +47,14 @@ pub fn print_page(table: &[u8], page: &[u8], places: usize, refused: u64) {
 
 // Prints the last line.
 fn print_tally(table: &[u8], page: &[u8], refused: u64) {
-    match tally(Mode(MENDING), table, Books(ONE_BOOK), Book(ONLY_BOOK), page) {
+    match tally(
+        Mode(MENDING),
+        table,
+        Books(ONE_BOOK),
+        Book(ONLY_BOOK),
+        Layout::CellByCell,
+        page,
+    ) {
         Tallied::Counted(counts) => {
             let mut out = [0u8; 256];
             match last_line(counts, refused, &mut out) {

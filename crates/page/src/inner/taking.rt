@@ -3,6 +3,7 @@ use crate::Arrival;
 use answers::Refusal;
 use cells::inner::rule::arrive;
 use cells::inner::spot::locate;
+use layout::Layout;
 use pairing::inner::starts::is_foreign;
 use pairing::inner::starts::row_starts;
 use records::inner::named_in;
@@ -12,6 +13,7 @@ ghost use mathlib.Core.List.{[], _∷_};
 ghost use mathlib.Core.Path.{_≡_};
 ghost use Prim.Native.Nat.{_+_, _/_, _≤_, _<_, min};
 ghost use Rattle.answers.specs.Checks.{firstOf, leaves};
+ghost use Rattle.rules.specs.Layouts.{asCells};
 ghost use Rattle.rules.specs.Taking.{takeRest, takeInto, refusals, takeLeaves, collected};
 ghost use Rattle.tables.specs.Table.{placesIn};
 ghost use Rattle.tables.specs.Way.{Starts};
@@ -45,14 +47,17 @@ pub fn take_record(
     places: usize,
     books: Books,
     foreign: bool,
+    layout: Layout,
     page: &mut [u8],
     bytes: &[u8],
 ) -> Arrival
-    requires { ⌜ Ready (now table) (books .0) (now page) places × Tells (now table) (now bytes) foreign ⌝ }
-    ensures { λ r. ⌜ (takeMeaning r ≡ firstOf (takeRest (now (table .entry)) (books .0) (now (page .entry)) (now (bytes .entry))) (0 ∷ []))
-        × (now (page .exit)
-        ≡ leaves (takeRest (now (table .entry)) (books .0) (now (page .entry)) (now (bytes .entry)))
-        (takeInto (now (table .entry)) (now (page .entry)) (now (bytes .entry))) (now (page .entry))) ⌝ }
+    requires { ⌜ Ready (now table) (books .0) (asCells layout (now table) (books .0) (now page)) places × Tells (now table) (now bytes) foreign ⌝ }
+    ensures { λ r. ⌜ (takeMeaning r
+        ≡ firstOf (takeRest (now (table .entry)) (books .0) (asCells layout (now (table .entry)) (books .0) (now (page .entry))) (now (bytes .entry))) (0 ∷ []))
+        × (asCells layout (now (table .entry)) (books .0) (now (page .exit))
+        ≡ leaves (takeRest (now (table .entry)) (books .0) (asCells layout (now (table .entry)) (books .0) (now (page .entry))) (now (bytes .entry)))
+        (takeInto (now (table .entry)) (asCells layout (now (table .entry)) (books .0) (now (page .entry))) (now (bytes .entry)))
+        (asCells layout (now (table .entry)) (books .0) (now (page .entry)))) ⌝ }
 {
     if wrong_record(bytes.len()) {
         return Arrival::Refused(Refusal::BufferLength);
@@ -67,7 +72,7 @@ pub fn take_record(
     if foreign {
         return Arrival::Refused(Refusal::ForeignRow);
     }
-    let spot = locate(places, books.0, named);
+    let spot = locate(layout, places, books.0, named);
     if arrive(page, spot, bytes) {
         return Arrival::Refused(Refusal::BadCell);
     }
@@ -97,15 +102,19 @@ fn refusals_of(
     places: usize,
     books: Books,
     starts: &[usize],
+    layout: Layout,
     page: &mut [u8],
     bytes: &[u8],
 ) -> usize
-    requires { ⌜ Takes (now table) (books .0) (now page) places (now starts) ⌝ }
-    ensures { λ r. ⌜ (r ≡ refusals (now (table .entry)) (books .0) (now (page .entry)) (now (bytes .entry)))
-        × (now (page .exit) ≡ takeLeaves (now (table .entry)) (books .0) (now (page .entry)) (now (bytes .entry))) × (r ≤ 1) ⌝ }
+    requires { ⌜ Takes (now table) (books .0) (asCells layout (now table) (books .0) (now page)) places (now starts) ⌝ }
+    ensures { λ r. ⌜ (r
+        ≡ refusals (now (table .entry)) (books .0) (asCells layout (now (table .entry)) (books .0) (now (page .entry))) (now (bytes .entry)))
+        × (asCells layout (now (table .entry)) (books .0) (now (page .exit))
+        ≡ takeLeaves (now (table .entry)) (books .0) (asCells layout (now (table .entry)) (books .0) (now (page .entry))) (now (bytes .entry)))
+        × (r ≤ 1) ⌝ }
 {
     let foreign = is_foreign_part(table, places, starts, bytes);
-    match take_record(table, places, books, foreign, page, bytes) {
+    match take_record(table, places, books, foreign, layout, page, bytes) {
         Arrival::Taken => 0,
         Arrival::Refused(_) => 1,
     }
@@ -138,18 +147,21 @@ fn collect_parts(
     places: usize,
     books: Books,
     starts: &[usize],
+    layout: Layout,
     page: &mut [u8],
     bytes: &[u8],
 ) -> usize
-    requires { ⌜ Takes (now table) (books .0) (now page) places (now starts) ⌝ }
-    ensures { λ r. ⌜ (r ≡ collected (now (table .entry)) (books .0) (now (page .entry)) (now (bytes .entry)) .refused)
-        × (now (page .exit) ≡ collected (now (table .entry)) (books .0) (now (page .entry)) (now (bytes .entry)) .page) ⌝ }
+    requires { ⌜ Takes (now table) (books .0) (asCells layout (now table) (books .0) (now page)) places (now starts) ⌝ }
+    ensures { λ r. ⌜ (r
+        ≡ collected (now (table .entry)) (books .0) (asCells layout (now (table .entry)) (books .0) (now (page .entry))) (now (bytes .entry)) .refused)
+        × (asCells layout (now (table .entry)) (books .0) (now (page .exit))
+        ≡ collected (now (table .entry)) (books .0) (asCells layout (now (table .entry)) (books .0) (now (page .entry))) (now (bytes .entry)) .page) ⌝ }
 {
     let mut at = 0;
     let mut refused = 0;
     while at < bytes.len() {
         let end = part_end(at, bytes.len());
-        refused += refusals_of(table, places, books, starts, page, &bytes[at..end]);
+        refused += refusals_of(table, places, books, starts, layout, page, &bytes[at..end]);
         at = end;
     }
     refused
@@ -160,14 +172,17 @@ pub fn collect_records(
     table: &[u8],
     places: usize,
     books: Books,
+    layout: Layout,
     page: &mut [u8],
     bytes: &[u8],
 ) -> usize
-    requires { ⌜ Ready (now table) (books .0) (now page) places ⌝ }
-    ensures { λ r. ⌜ (r ≡ collected (now (table .entry)) (books .0) (now (page .entry)) (now (bytes .entry)) .refused)
-        × (now (page .exit) ≡ collected (now (table .entry)) (books .0) (now (page .entry)) (now (bytes .entry)) .page) ⌝ }
+    requires { ⌜ Ready (now table) (books .0) (asCells layout (now table) (books .0) (now page)) places ⌝ }
+    ensures { λ r. ⌜ (r
+        ≡ collected (now (table .entry)) (books .0) (asCells layout (now (table .entry)) (books .0) (now (page .entry))) (now (bytes .entry)) .refused)
+        × (asCells layout (now (table .entry)) (books .0) (now (page .exit))
+        ≡ collected (now (table .entry)) (books .0) (asCells layout (now (table .entry)) (books .0) (now (page .entry))) (now (bytes .entry)) .page) ⌝ }
 {
     let mut starts = [0usize; 33];
     row_starts(table, &mut starts);
-    collect_parts(table, places, books, &starts, page, bytes)
+    collect_parts(table, places, books, &starts, layout, page, bytes)
 }

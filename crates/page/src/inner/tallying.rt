@@ -3,6 +3,7 @@ use crate::Counts;
 use crate::Tallied;
 use answers::Refusal;
 use cells::inner::spot::locate;
+use layout::Layout;
 use pairing::inner::walking::walk_from;
 use pairing::inner::walking::walked;
 use places::inner::looking::Looked;
@@ -17,6 +18,7 @@ ghost use mathlib.Core.List.{_∷_};
 ghost use mathlib.Core.Path.{_≡_};
 ghost use Prim.Native.Nat.{_<_};
 ghost use Rattle.answers.specs.Checks.{firstOf};
+ghost use Rattle.rules.specs.Layouts.{asCells};
 ghost use Rattle.rules.specs.Tallying.{tallyRest, tallyOf};
 ghost use Rattle.tables.specs.Table.{rowOf};
 ghost use Rattle.page.specs.Bounds.{Ready};
@@ -31,12 +33,14 @@ pub fn tally_page(
     books: Books,
     book: Book,
     row: usize,
+    layout: Layout,
     page: &[u8],
 ) -> Tallied
-    requires { ⌜ Ready (now table) (books .0) (now page) places × (book .0 < books .0) × (row ≡ rowOf (now table) 0) ⌝ }
+    requires { ⌜ Ready (now table) (books .0) (asCells layout (now table) (books .0) (now page)) places × (book .0 < books .0)
+        × (row ≡ rowOf (now table) 0) ⌝ }
     ensures { λ r. ⌜ tallyMeaning r
-        ≡ firstOf (tallyRest (now (table .entry)) (now (page .entry)) (book .0))
-        (0 ∷ tallyOf (mode .0) (now (table .entry)) (now (page .entry)) (book .0)) ⌝ }
+        ≡ firstOf (tallyRest (now (table .entry)) (asCells layout (now (table .entry)) (books .0) (now (page .entry))) (book .0))
+        (0 ∷ tallyOf (mode .0) (now (table .entry)) (asCells layout (now (table .entry)) (books .0) (now (page .entry))) (book .0)) ⌝ }
 {
     let mut counts = [0usize; 5];
     let mut walk = walk_from(table, row, 0);
@@ -49,7 +53,7 @@ pub fn tally_page(
             place,
             row,
         };
-        let spot = locate(places, books.0, named);
+        let spot = locate(layout, places, books.0, named);
         match look(mode, row_at(table, row), page, spot) {
             Looked::Bad => return Tallied::Refused(Refusal::BadCellAt { place }),
             Looked::At(seen) => {

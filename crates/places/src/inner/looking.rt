@@ -1,12 +1,12 @@
 // A place looked at, as the readers, the tally and the listing do it: refusal 12, or the answer of its cell.
-use cells::inner::judging::Seen;
-use cells::inner::judging::judge;
 use cells::inner::rule::bad_at;
 use cells::inner::spot::Spot;
+use judging::inner::Seen;
+use judging::inner::judge;
 use layout::inner::record_at;
 use layout::inner::state_at;
 use rules::Mode;
-ghost use Rattle.cells.specs.Seen.{Sees};
+ghost use Rattle.judging.specs.Seen.{Sees};
 ghost use Rattle.cells.specs.Spots.{SpotIn, cellThere};
 ghost use Rattle.tables.specs.Row.{IsRow};
 ghost use Rattle.places.specs.Looking.{Looks};
@@ -21,8 +21,14 @@ pub fn judge_at(mode: Mode, row: &[u8], page: &[u8], spot: Spot) -> Seen
     requires { ⌜ IsRow (now row) × SpotIn (now page) spot ⌝ }
     ensures { λ seen. ⌜ Sees (mode .0) (now (row .entry)) (cellThere (now (page .entry)) spot) seen ⌝ }
 {
-    let state = state_at(page, spot.cells, spot.cell);
-    judge(mode, row, state, record_at(page, spot.cells, spot.cell))
+    let layout = spot.layout;
+    let state = state_at(layout, page, spot.cells, spot.cell);
+    judge(
+        mode,
+        row,
+        state,
+        record_at(layout, page, spot.cells, spot.cell),
+    )
 }
 
 // The cell of a place in this row.

@@ -1,7 +1,7 @@
 // What a place shows: the number of its answer, the reason or the distance, and the point of a sound or mended one or
 // zeros for the others.
-use cells::inner::judging::Seen;
 use counts::Radius;
+use judging::inner::Seen;
 use numbering::inner::Found;
 use numbering::inner::of_radius;
 use numbering::inner::write_point;
@@ -12,7 +12,7 @@ ghost use Prim.Native.Nat.{_<_};
 ghost use lib.IntN.{pos};
 ghost use lib.ListN as listed;
 ghost use lib.ListN.{replicate};
-ghost use Rattle.cells.specs.Seen.{Handed};
+ghost use Rattle.judging.specs.Seen.{Handed};
 ghost use Rattle.numbering.specs.Numbered.{FoundIn};
 ghost use Rattle.rules.specs.Judging.{answerNumber, reasonNumber, reasonOrDistance, shown, pointNamed, NamesPoint, Shows};
 ghost use Rattle.tables.specs.Row.{lengthOf, IsRow};

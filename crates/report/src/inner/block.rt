@@ -2,10 +2,11 @@
 use crate::Listed;
 use answers::Refusal;
 use answers::Verdict;
-use cells::inner::judging::Seen;
 use cells::inner::rule::bad_at;
 use cells::inner::spot::Spot;
 use cells::inner::spot::locate;
+use judging::inner::Seen;
+use layout::Layout;
 use pairing::inner::walking::walk_from;
 use pairing::inner::walking::walked;
 use places::inner::looking::judge_at;
@@ -24,7 +25,7 @@ ghost use lib.ListN as listed;
 ghost use Rattle.answers.specs.Checks.{firstOf, leaves, eachFrom};
 ghost use Rattle.answers.specs.Refusals.{verdictMeaning};
 ghost use Rattle.buffers.specs.Written.{Wrote};
-ghost use Rattle.cells.specs.Seen.{Handed};
+ghost use Rattle.judging.specs.Seen.{Handed};
 ghost use Rattle.cells.specs.Spots.{SpotIn, cellThere};
 ghost use Rattle.rules.specs.Judging.{Shows};
 ghost use Rattle.rules.specs.Taking.{cellCheckAt};
@@ -32,11 +33,12 @@ ghost use Rattle.tables.specs.Row.{lengthOf, IsRow};
 ghost use Rattle.reporting.specs.Listing.{lineOf, lineIn, linesFrom};
 ghost use Rattle.reporting.specs.Calls.{lineSpace, startingWith, linesRest, linesText, linesAnswer};
 ghost use Rattle.report.specs.Meanings.{listedMeaning, sizeListed};
-ghost use Rattle.report.specs.Bounds.{Spans, HasRoom, Listable};
+ghost use Rattle.report.specs.Bounds.{pageSpanned, Spans, HasRoom, Listable};
 
-// The places of a book from `from`, which is in this row, to the one before `to`; a page has so many books, and a book
-// so many places.
+// The places of a book from `from`, which is in this row, to the one before `to`; a page is kept in this layout and has
+// so many books, and a book so many places.
 pub struct Span {
+    pub layout: Layout,
     pub places: usize,
     pub books: usize,
     pub book: usize,
@@ -49,8 +51,10 @@ pub struct Span {
 fn check_cells(table: &[u8], page: &[u8], span: Span) -> Verdict
     requires { ⌜ Spans (now table) (now page) span ⌝ }
     ensures { λ r. ⌜ verdictMeaning r
-        ≡ firstOf (eachFrom (cellCheckAt (now (table .entry)) (now (page .entry)) (span .book)) (span .from) (span .to - span .from)) (0 ∷ []) ⌝ }
+        ≡ firstOf (eachFrom (cellCheckAt (now (table .entry)) (pageSpanned (now (table .entry)) (now (page .entry)) span) (span .book))
+        (span .from) (span .to - span .from)) (0 ∷ []) ⌝ }
 {
+    let layout = span.layout;
     let mut walk = walk_from(table, span.row, span.from);
     let mut place = span.from;
     while place < span.to {
@@ -60,7 +64,7 @@ fn check_cells(table: &[u8], page: &[u8], span: Span) -> Verdict
             place,
             row: walk.row,
         };
-        if bad_at(page, locate(span.places, span.books, named)) {
+        if bad_at(page, locate(layout, span.places, span.books, named)) {
             return Verdict::Refused(Refusal::BadCellAt { place });
         }
         place += 1;
@@ -109,9 +113,10 @@ fn write_line(mode: Mode, row: &[u8], page: &[u8], spot: Spot, at: usize, out: &
 fn write_lines(mode: Mode, table: &[u8], page: &[u8], span: Span, out: &mut [u8]) -> usize
     requires { ⌜ HasRoom (now table) (now page) span (now out) ⌝ }
     ensures { λ r. ⌜ Wrote (now (out .entry)) 0
-        (linesFrom (mode .0) (now (table .entry)) (now (page .entry)) (span .book) (span .from) (span .to - span .from))
+        (linesFrom (mode .0) (now (table .entry)) (pageSpanned (now (table .entry)) (now (page .entry)) span) (span .book) (span .from) (span .to - span .from))
         (lineSpace * (span .to - span .from)) r (now (out .exit)) ⌝ }
 {
+    let layout = span.layout;
     let mut walk = walk_from(table, span.row, span.from);
     let mut end = 0;
     let mut place = span.from;
@@ -122,7 +127,7 @@ fn write_lines(mode: Mode, table: &[u8], page: &[u8], span: Span, out: &mut [u8]
             place,
             row: walk.row,
         };
-        let spot = locate(span.places, span.books, named);
+        let spot = locate(layout, span.places, span.books, named);
         end = write_line(mode, row_at(table, walk.row), page, spot, end, out);
         place += 1;
     }
@@ -143,12 +148,15 @@ fn least(a: usize, b: usize) -> usize
 pub fn lines_from(mode: Mode, table: &[u8], page: &[u8], opened: Span, out: &mut [u8]) -> Listed
     requires { ⌜ Listable (mode .0) (now table) (now page) opened ⌝ }
     ensures says { λ r. ⌜ listedMeaning r
-        ≡ firstOf (linesRest (now (table .entry)) (now (page .entry)) (opened .book) (opened .from) (listed.length (now (out .entry))))
-        (linesAnswer (mode .0) (now (table .entry)) (now (page .entry)) (opened .book) (opened .from) (listed.length (now (out .entry)))) ⌝ }
+        ≡ firstOf (linesRest (now (table .entry)) (pageSpanned (now (table .entry)) (now (page .entry)) opened) (opened .book) (opened .from)
+        (listed.length (now (out .entry))))
+        (linesAnswer (mode .0) (now (table .entry)) (pageSpanned (now (table .entry)) (now (page .entry)) opened) (opened .book) (opened .from)
+        (listed.length (now (out .entry)))) ⌝ }
     ensures leaves { λ r. ⌜ now (out .exit)
-        ≡ leaves (linesRest (now (table .entry)) (now (page .entry)) (opened .book) (opened .from) (listed.length (now (out .entry))))
-        (startingWith (linesText (mode .0) (now (table .entry)) (now (page .entry)) (opened .book) (opened .from) (listed.length (now (out .entry))))
-        (now (out .entry)))
+        ≡ leaves (linesRest (now (table .entry)) (pageSpanned (now (table .entry)) (now (page .entry)) opened) (opened .book) (opened .from)
+        (listed.length (now (out .entry))))
+        (startingWith (linesText (mode .0) (now (table .entry)) (pageSpanned (now (table .entry)) (now (page .entry)) opened) (opened .book) (opened .from)
+        (listed.length (now (out .entry)))) (now (out .entry)))
         (now (out .entry)) ⌝ }
     ensures fits { λ r. ⌜ sizeListed r ≤ listed.length (now (out .exit)) ⌝ }
 {

@@ -7,7 +7,7 @@ use Rattle.cases.proofs.pages.with_table.Statement.{statement}
 use Rattle.cases.proofs.pages.with_table.Tie as tie
 
 slice-aggregate-made : tie.Need-slice-aggregate-made
-slice-aggregate-made c = sym (length-take-le (c .before .before .before .before .number .result) _ (omega arith))
+slice-aggregate-made c = sym (length-take-le (c .before .before .before .before .before .number .result) _ (omega arith))
 
 pub with-table-spec : {M : Type 1} → statement M
 with-table-spec =
@@ -18,6 +18,7 @@ with-table-spec =
     (λ c. search needs)
     slice-aggregate-made
     (λ c κs. search needs)
+    (λ c. search needs)
     (λ c. search needs)
     (λ c. search needs)
     (λ c. search needs)

@@ -8,8 +8,10 @@ use Rattle.probe.proofs.pages.probe_coefficient.Statement.{statement}
 use Rattle.probe.proofs.pages.probe_coefficient.Tie as tie
 
 returns : tie.Need-returns
-returns c = c .coefficient-item .ensures ∙ ap (λ (vs : List ℕ). getD vs (c .before .before .before .before .args .which) 0) (c .before .coefficient .ensures .0)
+returns c =
+    let a = c .before .before .before .before .before .args in
+    let did = rw (c .before .before .layout-of .ensures) at (c .before .coefficient .ensures) in
+    c .coefficient-item .ensures ∙ ap (λ (vs : List ℕ). getD vs (a .which) 0) (did .0)
 
 pub probe-coefficient-spec : {M : Type 1} → statement M
-probe-coefficient-spec =
-    tie.close (tie.spec (λ c κs. search needs) (λ c κs. search needs) returns)
+probe-coefficient-spec = tie.close (tie.spec (λ c κs. search needs) (λ c κs. search needs) (λ c κs. search needs) returns)

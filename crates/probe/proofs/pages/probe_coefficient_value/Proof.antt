@@ -9,8 +9,9 @@ use Rattle.probe.proofs.pages.probe_coefficient_value.Statement.{statem
 use Rattle.probe.proofs.pages.probe_coefficient_value.Tie as tie
 
 returns : tie.Need-returns
-returns c = c .coefficient-value .ensures ∙ ap (λ (vs : List Float). getD vs 0 positiveZero) (c .before .coefficient .ensures .1)
+returns c =
+    let did = rw (c .before .before .layout-of .ensures) at (c .before .coefficient .ensures) in
+    c .coefficient-value .ensures ∙ ap (λ (vs : List Float). getD vs 0 positiveZero) (did .1)
 
 pub probe-coefficient-value-spec : {M : Type 1} → statement M
-probe-coefficient-value-spec =
-    tie.close (tie.spec (λ c κs. search needs) (λ c κs. search needs) returns)
+probe-coefficient-value-spec = tie.close (tie.spec (λ c κs. search needs) (λ c κs. search needs) (λ c κs. search needs) returns)

@@ -8,7 +8,10 @@ use Rattle.probe.proofs.pages.probe_tally.Statement.{statement}
 use Rattle.probe.proofs.pages.probe_tally.Tie as tie
 
 returns : tie.Need-returns
-returns c = c .tally-item .ensures ∙ ap (λ (vs : List ℕ). getD vs (c .before .before .before .before .args .which) 0) (c .before .tally .ensures)
+returns c =
+    let a = c .before .before .before .before .before .args in
+    let did = rw (c .before .before .layout-of .ensures) at (c .before .tally .ensures) in
+    c .tally-item .ensures ∙ ap (λ (vs : List ℕ). getD vs (a .which) 0) did
 
 pub probe-tally-spec : {M : Type 1} → statement M
-probe-tally-spec = tie.close (tie.spec (λ c κs. search needs) (λ c κs. search needs) returns)
+probe-tally-spec = tie.close (tie.spec (λ c κs. search needs) (λ c κs. search needs) (λ c κs. search needs) returns)

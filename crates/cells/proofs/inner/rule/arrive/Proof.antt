@@ -2,7 +2,9 @@
 use mathlib.Core.Bool.{true, false}
 use mathlib.Core.Path.{_≡_, sym, _∙_}
 use Rattle.layout.proofs.Cells.{set-back}
-use Rattle.cells.specs.Spots.{badThere}
+use Rattle.layout.specs.declared.Layout.the-variants as layouts
+use Rattle.cells.specs.Spots.{pageThere, badThere}
+use Rattle.cells.proofs.Spots.{page-there}
 use borrow.Author.Needs.{needs}
 use Rattle.cells.proofs.inner.rule.arrive.Statement.{statement}
 use Rattle.cells.proofs.inner.rule.arrive.Tie as tie
@@ -15,7 +17,7 @@ returns c =
     let pg = a .args .page .now in
     let spot = a .args .spot in
     let bad : badThere pg spot ≡ true = sym (c .before .bad-at .ensures) ∙ c .if1 .taken in
-    (sym bad, rw bad (sym (set-back (spot .cells) pg (a .pre .0 .size) (spot .cell) (a .pre .0 .below))))
+    (sym bad, rw bad (sym (set-back layouts.CellByCell (spot .cells) (pageThere pg spot) (page-there pg spot (a .pre .0)) (spot .cell) (a .pre .0 .below))))
 
 returns-2 : tie.Need-returns-2
 returns-2 c =

@@ -6,7 +6,7 @@ use native.Mathlib.Omega.{arith}
 use lib.ListN.{length, take}
 use borrow.Author.Needs.{needs}
 use borrow.Author.Tests.{ltb-true}
-use Rattle.listing.proofs.Blocks.{TookWhole, took-none, took-block, took-more, refused-few}
+use Rattle.listing.proofs.Blocks.{TookWhole, took-none, took-block, took-more, cell-by-cell, refused-few}
 use Rattle.listing.proofs.inner.input.take_records.Statement.{statement}
 use Rattle.listing.proofs.inner.input.take_records.Tie as tie
 
@@ -31,7 +31,8 @@ loop-holds c =
 add-refused : tie.Need-add-refused Inv-loop μ-loop
 add-refused c =
     let i = c .before .before .before .before .before .before .before .loop in
-    let few = refused-few (c .before .before .before .before .before .before .before .before .before .before .before .before .before .before .before .before .before .before .before .args .table .now) (i .page) (i .block) (c .before .before .collect .ensures .0) (le-of-eq (i .inv .1)) in
+    let t = c .before .before .before .before .before .before .before .before .before .before .before .before .before .before .before .before .before .before .before .args .table .now in
+    let few = refused-few t (i .page) (i .block) (cell-by-cell t (i .page) (i .block) (c .before .before .collect .ensures) .0) (le-of-eq (i .inv .1)) in
     record { fits = omega (arith, i .inv .3, i .inv .0, few) }
 
 loop-less : tie.Need-loop-less Inv-loop μ-loop
@@ -42,20 +43,24 @@ loop-again c =
     let i = c .before .before .before .before .before .before .before .before .before .before .before .loop in
     let filled = c .before .fill2 in
     let took = c .before .before .before .before .before .before .collect in
-    let few = refused-few (c .before .before .before .before .before .before .before .before .before .before .before .before .before .before .before .before .before .before .before .before .before .before .before .args .table .now) (i .page) (i .block) (took .ensures .0) (le-of-eq (i .inv .1)) in (
+    let t = c .before .before .before .before .before .before .before .before .before .before .before .before .before .before .before .before .before .before .before .before .before .before .before .args .table .now in
+    let did = cell-by-cell t (i .page) (i .block) (took .ensures) in
+    let few = refused-few t (i .page) (i .block) (did .0) (le-of-eq (i .inv .1)) in (
       omega (arith, ltb-true (i .turns) 281474976710656 (c .before .before .before .before .before .before .before .before .before .if2 .taken)),
       filled .kept .1 .1 .0 ∙ i .inv .1,
-      took .kept .1 .1 .0 ∙ i .inv .2,
+      took .kept .1 .1 .1 .0 ∙ i .inv .2,
       omega (arith, i .inv .3, few),
       filled .ensures .0,
       filled .ensures .1,
-      took-block (i .inv .6) (i .block) (took .ensures .1) (took .ensures .0) 8192 (i .inv .1),
+      took-block (i .inv .6) (i .block) (did .1) (did .0) 8192 (i .inv .1),
     )
 
 add-refused-2 : tie.Need-add-refused-2 Inv-loop μ-loop
 add-refused-2 c =
     let i = c .before .before .before .before .before .before .loop in
-    let few = refused-few (c .before .before .before .before .before .before .before .before .before .before .before .before .before .before .before .before .before .before .args .table .now) (i .page) (take (i .n) (i .block)) (c .before .before .collect2 .ensures .0) (omega (arith, i .inv .5, i .inv .4, i .inv .1)) in
+    let t = c .before .before .before .before .before .before .before .before .before .before .before .before .before .before .before .before .before .before .args .table .now in
+    let block = take (i .n) (i .block) in
+    let few = refused-few t (i .page) block (cell-by-cell t (i .page) block (c .before .before .collect2 .ensures) .0) (omega (arith, i .inv .5, i .inv .4, i .inv .1)) in
     record { fits = omega (arith, i .inv .3, i .inv .0, few) }
 
 returns : tie.Need-returns Inv-loop μ-loop
@@ -64,11 +69,12 @@ returns c = took-none (c .before .before .before .before .before .before .args .
 returns-2 : tie.Need-returns-2 Inv-loop μ-loop
 returns-2 c =
     let i = c .before .before .before .before .before .before .before .loop in
-    let took = c .before .before .before .collect2 .ensures in
-    took-more (i .inv .6) (take (i .n) (i .block)) (took .1) (took .0)
+    let block = take (i .n) (i .block) in
+    let took = cell-by-cell (c .before .before .before .before .before .before .before .before .before .before .before .before .before .before .before .before .before .before .before .args .table .now) (i .page) block (c .before .before .before .collect2 .ensures) in
+    took-more (i .inv .6) block (took .1) (took .0)
 
 same-length : tie.Need-same-length Inv-loop μ-loop
-same-length c = c .before .before .before .collect2 .kept .1 .1 .0 ∙ c .before .before .before .before .before .before .before .loop .inv .2
+same-length c = c .before .before .before .collect2 .kept .1 .1 .1 .0 ∙ c .before .before .before .before .before .before .before .loop .inv .2
 
 pub take-records-spec : {M : Type 1} → statement M
 take-records-spec =

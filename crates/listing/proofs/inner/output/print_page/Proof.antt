@@ -7,6 +7,8 @@ use lib.ListN.{length}
 use borrow.Author.Needs.{needs}
 use Rattle.reporting.proofs.Steps.{said-goes-on}
 use Rattle.tables.specs.BookNumbers.{oneBook, onlyBook}
+use Rattle.layout.specs.declared.Layout.the-variants as layouts
+use Rattle.rules.specs.Layouts.{asCells}
 use Rattle.rules.specs.Modes.{mending}
 use Rattle.report.specs.Meanings.{listedMeaning, sizeListed}
 use Rattle.files.proofs.Parts.{part-fits, part-size}
@@ -23,17 +25,17 @@ loop-holds : tie.Need-loop-holds Inv-loop μ-loop
 loop-holds c = (omega arith, sym (c .large-buffer .ensures))
 
 array-share-prefix-out : tie.Need-array-share-prefix-out Inv-loop μ-loop
-array-share-prefix-out c = let block = c .before .before .before .before .lines in part-fits sizeListed (c .before .to .given .1) (block .last .1 .1 .1 .1 .1 .1 .0) (block .ensures .2)
+array-share-prefix-out c = let block = c .before .before .before .before .lines in part-fits sizeListed (c .before .to .given .1) (block .last .1 .1 .1 .1 .1 .1 .1 .0) (block .ensures .2)
 
 slice-aggregate-put : tie.Need-slice-aggregate-put Inv-loop μ-loop
-slice-aggregate-put c = let block = c .before .before .before .before .before .lines in part-size sizeListed (c .before .before .to .given .1) (block .last .1 .1 .1 .1 .1 .1 .0) (block .ensures .2)
+slice-aggregate-put c = let block = c .before .before .before .before .before .lines in part-size sizeListed (c .before .before .to .given .1) (block .last .1 .1 .1 .1 .1 .1 .1 .0) (block .ensures .2)
 
 loop-less : tie.Need-loop-less Inv-loop μ-loop
 loop-less c =
     let a = c .before .before .before .before .before .before .before .before .before .before .before .before .before .before .args in
     let i = c .before .before .before .before .before .before .before .before .before .before .loop in
     let told = c .before .before .before .before .to .given in
-    let on = said-goes-on (a .table .now) mending oneBook onlyBook (a .page .now) (i .out) (i .from) _ _ (ap listedMeaning (sym (told .1)) ∙ c .before .before .before .before .before .before .before .lines .ensures .0) in
+    let on = said-goes-on (a .table .now) mending oneBook onlyBook (asCells layouts.CellByCell (a .table .now) oneBook (a .page .now)) (i .out) (i .from) _ _ (ap listedMeaning (sym (told .1)) ∙ c .before .before .before .before .before .before .before .lines .ensures .0) in
     omega (arith, on .0, on .1)
 
 loop-again : tie.Need-loop-again Inv-loop μ-loop
@@ -42,8 +44,8 @@ loop-again c =
     let i = c .before .before .before .before .before .before .before .before .before .before .loop in
     let told = c .before .before .before .before .to .given in
     let block = c .before .before .before .before .before .before .before .lines in
-    let on = said-goes-on (a .table .now) mending oneBook onlyBook (a .page .now) (i .out) (i .from) _ _ (ap listedMeaning (sym (told .1)) ∙ block .ensures .0) in
-    (on .1, block .kept .1 .1 .1 .1 .1 .1 .0 ∙ i .inv .1)
+    let on = said-goes-on (a .table .now) mending oneBook onlyBook (asCells layouts.CellByCell (a .table .now) oneBook (a .page .now)) (i .out) (i .from) _ _ (ap listedMeaning (sym (told .1)) ∙ block .ensures .0) in
+    (on .1, block .kept .1 .1 .1 .1 .1 .1 .1 .0 ∙ i .inv .1)
 
 pub print-page-spec : {M : Type 1} → statement M
 print-page-spec =

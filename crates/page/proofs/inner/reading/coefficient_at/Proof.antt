@@ -4,7 +4,7 @@ use mathlib.Core.Path.{refl, ap, _∙_}
 use native.Mathlib.Omega.{arith}
 use borrow.Author.Needs.{needs}
 use borrow.Author.Tests.{le-leb, lt-leb}
-use Rattle.cells.proofs.Shown.{seen-shows}
+use Rattle.judging.proofs.Shown.{seen-shows}
 use Rattle.cells.specs.Spots.{cellThere}
 use Rattle.rules.specs.Reading.{told, carried, carriedBy}
 use Rattle.rules.specs.declared.Judged.{Judged}

@@ -4,7 +4,7 @@ use mathlib.Core.Path.{refl, sym, ap, _∙_}
 use lib.ListN.{length}
 use borrow.Author.Needs.{needs}
 use borrow.Author.Tests.{eq-eqb, ne-eqb}
-use Rattle.cells.proofs.Shown.{seen-shows}
+use Rattle.judging.proofs.Shown.{seen-shows}
 use Rattle.cells.specs.Spots.{cellThere}
 use Rattle.rules.specs.Judging.{shown}
 use Rattle.rules.specs.Reading.{told}

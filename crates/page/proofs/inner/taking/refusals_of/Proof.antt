@@ -2,6 +2,7 @@
 use mathlib.Core.Path.{sym, ap, _∙_}
 use native.Mathlib.Omega.{arith}
 use borrow.Author.Needs.{needs}
+use Rattle.rules.specs.Layouts.{asCells}
 use Rattle.page.specs.Meanings.{takeMeaning}
 use Rattle.page.proofs.Collecting.{leaves-all, counts-0, counts-1}
 use Rattle.page.proofs.inner.taking.refusals_of.Statement.{statement}
@@ -17,7 +18,7 @@ returns : tie.Need-returns
 returns c =
     let a = c .before .before .before .before .before .before .before .before .before .before .before in
     let t = a .args .table .now in
-    let pg = a .args .page .now in
+    let pg = asCells (a .args .layout) t (a .args .books .0) (a .args .page .now) in
     let x = a .args .bytes .now in
     let did = c .before .before .before .before .take-record .ensures in
     let said = ap takeMeaning (sym (c .enum-told .given .1)) ∙ did .0 in
@@ -27,7 +28,7 @@ returns-2 : tie.Need-returns-2
 returns-2 c =
     let a = c .before .before .before .before .before .before .before .before .before .before .before in
     let t = a .args .table .now in
-    let pg = a .args .page .now in
+    let pg = asCells (a .args .layout) t (a .args .books .0) (a .args .page .now) in
     let x = a .args .bytes .now in
     let did = c .before .before .before .before .take-record .ensures in
     let told = c .enum-told2 .given in

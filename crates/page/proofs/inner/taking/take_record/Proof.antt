@@ -13,7 +13,7 @@ use Rattle.page.proofs.inner.taking.take_record.Tie as tie
 returns : tie.Need-returns
 returns c =
     let a = c .before .before .before .before .before in
-    take-4 (a .pre .0) (a .args .bytes .now) (sym (c .before .wrong-record .ensures) ∙ c .if1 .taken)
+    take-4 (a .args .layout) (a .args .page .now) (a .pre .0) (a .args .bytes .now) (sym (c .before .wrong-record .ensures) ∙ c .if1 .taken)
 
 named-in-requires : tie.Need-named-in-requires
 named-in-requires c κs =
@@ -23,32 +23,32 @@ returns-2 : tie.Need-returns-2
 returns-2 c =
     let a = c .before .before .before .before .before .before .before .before .before in
     let eight = sym (c .before .before .before .before .before .wrong-record .ensures) ∙ c .before .before .before .before .if1 .left in
-    take-8-book (a .pre .0) (a .args .bytes .now) eight (c .before .before .before .named-in .ensures) (c .if2 .taken)
+    take-8-book (a .args .layout) (a .args .page .now) (a .pre .0) (a .args .bytes .now) eight (c .before .before .before .named-in .ensures) (c .if2 .taken)
 
 returns-3 : tie.Need-returns-3
 returns-3 c =
     let a = c .before .before .before .before .before .before .before .before .before .before .before in
     let eight = sym (c .before .before .before .before .before .before .before .wrong-record .ensures) ∙ c .before .before .before .before .before .before .if1 .left in
-    take-8 (a .pre .0) (a .args .bytes .now) eight (c .before .before .before .before .before .named-in .ensures) (c .before .before .if2 .left) (c .if3 .taken)
+    take-8 (a .args .layout) (a .args .page .now) (a .pre .0) (a .args .bytes .now) eight (c .before .before .before .before .before .named-in .ensures) (c .before .before .if2 .left) (c .if3 .taken)
 
 returns-4 : tie.Need-returns-4
 returns-4 c =
     let a = c .before .before .before .before .before .before .before .before .before .before .before .before in
     let eight = sym (c .before .before .before .before .before .before .before .before .wrong-record .ensures) ∙ c .before .before .before .before .before .before .before .if1 .left in
-    take-9 (a .pre .0) (a .args .bytes .now) eight (c .before .before .before .before .before .before .named-in .ensures) (c .before .before .before .if2 .left) (c .before .if3 .left) (a .pre .1) (c .if4 .taken)
+    take-9 (a .args .layout) (a .args .page .now) (a .pre .0) (a .args .bytes .now) eight (c .before .before .before .before .before .before .named-in .ensures) (c .before .before .before .if2 .left) (c .before .if3 .left) (a .pre .1) (c .if4 .taken)
 
 locate-requires : tie.Need-locate-requires
 locate-requires c κs =
     let a = c .before .before .before .before .before .before .before .before .before .before .before .before in
     let eight = sym (c .before .before .before .before .before .before .before .before .wrong-record .ensures) ∙ c .before .before .before .before .before .before .before .if1 .left in
-    its-spot (a .pre .0) (a .args .bytes .now) eight (c .before .before .before .before .before .before .named-in .ensures) (c .before .before .before .if2 .left) (c .before .if3 .left)
+    its-spot (a .args .layout) (a .args .page .now) (a .pre .0) (a .args .bytes .now) eight (c .before .before .before .before .before .before .named-in .ensures) (c .before .before .before .if2 .left) (c .before .if3 .left)
 
 arrive-requires : tie.Need-arrive-requires
 arrive-requires c κs =
     let a = c .before .before .before .before .before .before .before .before .before .before .before .before .before .before in
     let x = a .args .bytes .now in
     let eight = sym (c .before .before .before .before .before .before .before .before .before .before .wrong-record .ensures) ∙ c .before .before .before .before .before .before .before .before .before .if1 .left in (
-      its-cell (a .pre .0) x eight (c .before .before .before .before .before .before .before .before .named-in .ensures) (c .before .before .before .before .before .if2 .left) (c .before .before .before .if3 .left) (a .pre .1) (c .before .before .if4 .left) (c .before .locate .ensures),
+      its-cell (a .args .layout) (a .args .page .now) (a .pre .0) x eight (c .before .before .before .before .before .before .before .before .named-in .ensures) (c .before .before .before .before .before .if2 .left) (c .before .before .before .if3 .left) (a .pre .1) (c .before .before .if4 .left) (c .before .locate .ensures),
       right-length (length x) recordLength eight,
     )
 
@@ -57,16 +57,16 @@ returns-5 c =
     let a = c .before .before .before .before .before .before .before .before .before .before .before .before .before .before .before .before .before .before in
     let eight = sym (c .before .before .before .before .before .before .before .before .before .before .before .before .before .before .wrong-record .ensures) ∙ c .before .before .before .before .before .before .before .before .before .before .before .before .before .if1 .left in
     let did = c .before .before .before .arrive .ensures in
-    take-12 (a .pre .0) (a .args .bytes .now) eight (c .before .before .before .before .before .before .before .before .before .before .before .before .named-in .ensures) (c .before .before .before .before .before .before .before .before .before .if2 .left) (c .before .before .before .before .before .before .before .if3 .left) (a .pre .1) (c .before .before .before .before .before .before .if4 .left)
-    (c .before .before .before .before .before .locate .ensures) (did .0) (did .1) (c .if5 .taken)
+    take-12 (a .args .layout) (a .args .page .now) (a .pre .0) (a .args .bytes .now) eight (c .before .before .before .before .before .before .before .before .before .before .before .before .named-in .ensures) (c .before .before .before .before .before .before .before .before .before .if2 .left) (c .before .before .before .before .before .before .before .if3 .left) (a .pre .1) (c .before .before .before .before .before .before .if4 .left)
+    (c .before .before .before .before .before .locate .ensures) (did .0) (c .before .before .before .arrive .last .0) (did .1) (c .if5 .taken)
 
 returns-6 : tie.Need-returns-6
 returns-6 c =
     let a = c .before .before .before .before .before .before .before .before .before .before .before .before .before .before .before .before .before .before in
     let eight = sym (c .before .before .before .before .before .before .before .before .before .before .before .before .before .before .wrong-record .ensures) ∙ c .before .before .before .before .before .before .before .before .before .before .before .before .before .if1 .left in
     let did = c .before .before .before .arrive .ensures in
-    take-0 (a .pre .0) (a .args .bytes .now) eight (c .before .before .before .before .before .before .before .before .before .before .before .before .named-in .ensures) (c .before .before .before .before .before .before .before .before .before .if2 .left) (c .before .before .before .before .before .before .before .if3 .left) (a .pre .1) (c .before .before .before .before .before .before .if4 .left)
-    (c .before .before .before .before .before .locate .ensures) (did .0) (did .1) (c .if5 .left)
+    take-0 (a .args .layout) (a .args .page .now) (a .pre .0) (a .args .bytes .now) eight (c .before .before .before .before .before .before .before .before .before .before .before .before .named-in .ensures) (c .before .before .before .before .before .before .before .before .before .if2 .left) (c .before .before .before .before .before .before .before .if3 .left) (a .pre .1) (c .before .before .before .before .before .before .if4 .left)
+    (c .before .before .before .before .before .locate .ensures) (did .0) (c .before .before .before .arrive .last .0) (did .1) (c .if5 .left)
 
 pub take-record-spec : {M : Type 1} → statement M
 take-record-spec =

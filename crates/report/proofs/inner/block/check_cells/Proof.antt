@@ -12,19 +12,20 @@ use Rattle.tables.proofs.Good.{places-to}
 use Rattle.tables.proofs.PlaceChecks.{sharing-good}
 use Rattle.tables.proofs.Walking.{walks-here, walks-on}
 use Rattle.tables.specs.Way.{Walked}
+use Rattle.report.specs.Bounds.{pageSpanned}
 use Rattle.report.proofs.Spanned.{inside, its-spot, its-cell, found-is}
 use Rattle.report.proofs.inner.block.check_cells.Statement.{statement}
 use Rattle.report.proofs.inner.block.check_cells.Tie as tie
 
 abbrev Inv-loop : tie.InvT-loop
-Inv-loop table page span walk₀ place₀ walk place =
+Inv-loop table page span layout walk₀ place₀ walk place =
     (place ≤ span .to)
     × Walked table (walk .row) (walk .end) place
-    × (firstOf (eachFrom (cellCheckAt table page (span .book)) place (span .to - place)) (0 ∷ [])
-    ≡ firstOf (eachFrom (cellCheckAt table page (span .book)) (span .from) (span .to - span .from)) (0 ∷ []))
+    × (firstOf (eachFrom (cellCheckAt table (pageSpanned table page span) (span .book)) place (span .to - place)) (0 ∷ [])
+    ≡ firstOf (eachFrom (cellCheckAt table (pageSpanned table page span) (span .book)) (span .from) (span .to - span .from)) (0 ∷ []))
 
 abbrev μ-loop : tie.MeasureT-loop
-μ-loop table page span walk₀ place₀ walk place = span .to - place
+μ-loop table page span layout walk₀ place₀ walk place = span .to - place
 
 walk-from-requires : tie.Need-walk-from-requires Inv-loop μ-loop
 walk-from-requires c κs = c .before .before .pre .placed
@@ -46,7 +47,7 @@ returns c =
     let a = c .before .before .before .before .before .before .before .before .before .before in
     let i = c .before .before .before .before .before .before .loop in
     let bad = found-is (a .pre) (c .before .before .before .before .if1 .taken) (c .before .before .before .walked .ensures) (c .before .before .locate .ensures) (sym (c .before .bad-at .ensures) ∙ c .if2 .taken) in
-    sym (each-refused (cellCheckAt (a .args .table .now) (a .args .page .now) (a .args .span .book)) (0 ∷ []) (i .place) (a .args .span .to) (c .before .before .before .before .if1 .taken) bad)
+    sym (each-refused (cellCheckAt (a .args .table .now) (pageSpanned (a .args .table .now) (a .args .page .now) (a .args .span)) (a .args .span .book)) (0 ∷ []) (i .place) (a .args .span .to) (c .before .before .before .before .if1 .taken) bad)
     ∙ i .inv .2
 
 add-place : tie.Need-add-place Inv-loop μ-loop
@@ -65,14 +66,14 @@ loop-again c =
       omega (arith, h),
       walks-on at-row,
       rw (add-one (i .place))
-          (sym (each-passed (cellCheckAt (a .args .table .now) (a .args .page .now) (a .args .span .book)) (0 ∷ []) (i .place) (a .args .span .to) h fine) ∙ i .inv .2),
+          (sym (each-passed (cellCheckAt (a .args .table .now) (pageSpanned (a .args .table .now) (a .args .page .now) (a .args .span)) (a .args .span .book)) (0 ∷ []) (i .place) (a .args .span .to) h fine) ∙ i .inv .2),
     )
 
 returns-2 : tie.Need-returns-2 Inv-loop μ-loop
 returns-2 c =
     let a = c .before .before .before .before .before .before .args in
     let i = c .before .before .loop in
-    sym (none-left (cellCheckAt (a .table .now) (a .page .now) (a .span .book)) (0 ∷ []) (i .place) (a .span .to) (c .if1 .left)) ∙ i .inv .2
+    sym (none-left (cellCheckAt (a .table .now) (pageSpanned (a .table .now) (a .page .now) (a .span)) (a .span .book)) (0 ∷ []) (i .place) (a .span .to) (c .if1 .left)) ∙ i .inv .2
 
 pub check-cells-spec : {M : Type 1} → statement M
 check-cells-spec =

@@ -4,6 +4,7 @@ use mathlib.Core.Path.{sym, ap, _∙_}
 use native.Mathlib.Omega.{arith}
 use borrow.Author.Needs.{needs}
 use Rattle.answers.specs.Refusals.{verdictMeaning}
+use Rattle.report.specs.Bounds.{pageSpanned}
 use Rattle.report.proofs.LinesSays.{lines-4, from-places, has-room, lines-12, lines-written}
 use Rattle.report.proofs.inner.block.lines_from.Statement.{statement}
 use Rattle.report.proofs.inner.block.lines_from.Tie as tie
@@ -11,7 +12,7 @@ use Rattle.report.proofs.inner.block.lines_from.Tie as tie
 returns : tie.Need-returns
 returns c =
     let a = c .before .before .before .before .args in
-    lines-4 (a .mode .0) (a .table .now) (a .page .now) (a .opened .book) (a .opened .from) (a .out .now) (c .if1 .taken)
+    lines-4 (a .mode .0) (a .table .now) (pageSpanned (a .table .now) (a .page .now) (a .opened)) (a .opened .book) (a .opened .from) (a .out .now) (c .if1 .taken)
 
 sub-least : tie.Need-sub-least
 sub-least c = from-places (c .before .before .before .before .before .pre)

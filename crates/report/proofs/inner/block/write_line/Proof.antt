@@ -5,7 +5,7 @@ use lib.IntN.{pos}
 use lib.ListN.{replicate}
 use lib.Seq.{length-take-le}
 use borrow.Author.Needs.{needs}
-use Rattle.cells.proofs.Shown.{seen-shows}
+use Rattle.judging.proofs.Shown.{seen-shows}
 use Rattle.cells.specs.Spots.{cellThere}
 use Rattle.report.proofs.inner.block.write_line.Statement.{statement}
 use Rattle.report.proofs.inner.block.write_line.Tie as tie

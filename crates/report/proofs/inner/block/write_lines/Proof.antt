@@ -8,20 +8,21 @@ use Rattle.tables.proofs.Good.{places-to}
 use Rattle.tables.proofs.PlaceChecks.{sharing-good}
 use Rattle.tables.proofs.Walking.{its-row, row-bytes, walks-here, walks-on}
 use Rattle.tables.specs.Way.{Walked}
+use Rattle.report.specs.Bounds.{pageSpanned}
 use Rattle.report.proofs.Joined.{LinesTo, begins-lines, line-more}
 use Rattle.report.proofs.Spanned.{inside, its-spot, its-cell, its-bytes}
 use Rattle.report.proofs.inner.block.write_lines.Statement.{statement}
 use Rattle.report.proofs.inner.block.write_lines.Tie as tie
 
 abbrev Inv-loop : tie.InvT-loop
-Inv-loop mode table page span out₀ walk₀ end₀ place₀ out walk end place =
+Inv-loop mode table page span out₀ layout walk₀ end₀ place₀ out walk end place =
     (span .from ≤ place)
     × (place ≤ span .to)
     × Walked table (walk .row) (walk .end) place
-    × LinesTo (mode .0) table page (span .book) (span .from) place out₀ end out
+    × LinesTo (mode .0) table (pageSpanned table page span) (span .book) (span .from) place out₀ end out
 
 abbrev μ-loop : tie.MeasureT-loop
-μ-loop mode table page span out₀ walk₀ end₀ place₀ out walk end place = span .to - place
+μ-loop mode table page span out₀ layout walk₀ end₀ place₀ out walk end place = span .to - place
 
 walk-from-requires : tie.Need-walk-from-requires Inv-loop μ-loop
 walk-from-requires c κs = c .before .before .before .pre .spans .placed
@@ -32,7 +33,7 @@ loop-holds c =
       omega arith,
       a .pre .spans .from-to,
       walks-here (c .walk-from .ensures),
-      begins-lines (a .args .mode .0) (a .args .table .now) (a .args .page .now) (a .args .span .book) (a .args .span .from) (a .args .out .now),
+      begins-lines (a .args .mode .0) (a .args .table .now) (pageSpanned (a .args .table .now) (a .args .page .now) (a .args .span)) (a .args .span .book) (a .args .span .from) (a .args .out .now),
     )
 
 walked-requires : tie.Need-walked-requires Inv-loop μ-loop
@@ -72,7 +73,7 @@ loop-again c =
       omega (arith, i .inv .0),
       omega (arith, h),
       walks-on at-row,
-      line-more (a .args .mode .0) (a .args .table .now) (a .args .page .now) (a .args .span .book) (i .inv .0) (its-row at-row (inside (a .pre .spans) h))
+      line-more (a .args .mode .0) (a .args .table .now) (pageSpanned (a .args .table .now) (a .args .page .now) (a .args .span)) (a .args .span .book) (i .inv .0) (its-row at-row (inside (a .pre .spans) h))
           (c .before .before .before .before .row-at .ensures .0) (its-bytes (a .pre .spans) h at-row located) (i .inv .3) wrote,
     )
 

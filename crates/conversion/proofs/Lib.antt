@@ -1,0 +1,2 @@
+pub mod Converting
+pub mod OneToOne

@@ -1,0 +1,3 @@
+pub mod States
+pub mod Judging
+pub mod Shown

@@ -1,0 +1,16 @@
+pub mod CellAfter
+pub mod CellRule
+pub mod Arrivals
+pub mod Claims
+pub mod Counts
+pub mod EitherOrder
+pub mod Grown
+pub mod Runs
+pub mod Blocks
+pub mod InEachCase
+pub mod Mending
+pub mod Shows
+pub mod Reasons
+pub mod TwoModes
+pub mod Pages
+pub mod Layouts

@@ -1,0 +1,4 @@
+pub mod After
+pub mod Few
+pub mod Growth
+pub mod Weighing
