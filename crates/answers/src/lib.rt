@@ -5,7 +5,7 @@
 ghost use Rattle.std.specs.Prelude.{◌≡◌};
 ghost use Rattle.answers.specs.Refusals.{number_of, first_named, second_named, named_by};
 
-#[derive(Drop)]
+#[derive(Clone, Copy)]
 pub enum Refusal {
     // 1: length outside 1 to 16
     LengthOutside,
@@ -47,11 +47,11 @@ pub enum Refusal {
 
 // A refusal in numbers: its own; those of the distance, row, coordinate or place that it names, at most two, with 0
 // where it names none; and how many it names.
-#[derive(Drop)]
+#[derive(Clone, Copy)]
 pub struct Numbers(pub u32, pub usize, pub usize, pub usize);
 
 // What a check answers that has nothing to tell but whether it passed.
-#[derive(Drop)]
+#[derive(Clone, Copy)]
 pub enum Verdict {
     Passed,
     Refused(Refusal),

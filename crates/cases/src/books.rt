@@ -11,7 +11,7 @@ use layout::inner::layout_of;
 use script::input::number;
 use tables::{Book, Books, ONE_BOOK, ONLY_BOOK};
 
-#[derive(Drop)]
+#[derive(Clone, Copy)]
 pub struct Shelf {
     pub books: Books,
     pub book: Book,

@@ -19,7 +19,7 @@ pub fn width(numbers: &[u64]) {
     output::said(shell::width(number(numbers, 0)) as u64);
 }
 
-#[derive(Drop)]
+#[derive(Clone, Copy)]
 struct Shells {
     usable: u64,
     points: u64,

@@ -16,7 +16,7 @@ use records::inner::{Named, write};
 use shares::inner::{share, sum};
 
 // The radius number, and the codeword.
-#[derive(Drop)]
+#[derive(Clone, Copy)]
 struct Coded {
     number: usize,
     codeword: u64,

@@ -14,7 +14,7 @@ use inner::convert_page;
 use layout::Layout;
 use tables::Books;
 
-#[derive(Drop)]
+#[derive(Clone, Copy)]
 pub enum Conversion {
     Converted,
     Refused(Refusal),

@@ -4,16 +4,16 @@
 #![tactic(auto)]
 
 // The length l of a point: how many coordinates it has.
-#[derive(Drop)]
+#[derive(Clone, Copy)]
 pub struct Length(pub usize);
 
 // The radius k of a shell: what the magnitudes of a point sum to.
-#[derive(Drop)]
+#[derive(Clone, Copy)]
 pub struct Radius(pub usize);
 
 // The shape field (docs/RULES.md, "The product-product index"): it has room for exactly S(s,k) numbers, or for as many
 // as the fewest bits that are enough have.
-#[derive(Drop)]
+#[derive(Clone, Copy)]
 pub enum Field {
     Exact,
     Bits,

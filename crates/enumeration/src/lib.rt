@@ -4,5 +4,5 @@
 
 // The selector of an enumeration, as a type of its own: a selector is never taken for an index (docs/RULES.md,
 // "Enumerations").
-#[derive(Drop)]
+#[derive(Clone, Copy)]
 pub struct Selector(pub usize);

@@ -13,7 +13,7 @@ use rows::inner::row::radii;
 use rules::{Judged, Mode, PLAIN, Reason};
 
 // The answer of a cell, and where the index of a sound one stands, so that the point need not be sought again.
-#[derive(Drop)]
+#[derive(Clone, Copy)]
 pub struct Seen {
     pub judged: Judged,
     pub found: Found,

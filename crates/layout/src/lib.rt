@@ -5,7 +5,7 @@
 pub mod inner;
 
 // How a page is kept. Pages of both layouts have one length, so whoever lends a page says which one it is.
-#[derive(Drop)]
+#[derive(Clone, Copy)]
 pub enum Layout {
     // each state with its record behind it, one cell after another
     CellByCell,

@@ -12,7 +12,7 @@ use ranges::inner::index_count;
 use selectors::inner::{Selected, field_of, select};
 
 // The shell whose points are numbered, and by which enumeration.
-#[derive(Drop)]
+#[derive(Clone, Copy)]
 pub struct Numbering {
     pub selected: Selected,
     pub length: Length,
@@ -21,7 +21,7 @@ pub struct Numbering {
 
 // Where an index stands among the others, as a search found it: its range, where the points are numbered by pattern,
 // shape and signs. The magnitude enumeration has nothing to tell.
-#[derive(Drop)]
+#[derive(Clone, Copy)]
 pub struct Found {
     pub s: usize,
     pub start: u64,
@@ -38,7 +38,7 @@ fn range_of(found: Found) -> Range
 
 // An index that was sought: it names a point and stands here; or it names none, as its shape is empty; or it is past
 // the end, and there are so many.
-#[derive(Drop)]
+#[derive(Clone, Copy)]
 pub enum Sought {
     At(Found),
     Empty,

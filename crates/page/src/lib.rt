@@ -25,14 +25,14 @@ use rows::inner::row::row_at;
 use rules::{Mode, Reason};
 use tables::{Book, Books};
 
-#[derive(Drop)]
+#[derive(Clone, Copy)]
 pub enum Arrival {
     Taken,
     Refused(Refusal),
 }
 
 // What a place shows; a mended one has its distance, and an unreadable one its reason, past the end with its distance.
-#[derive(Drop)]
+#[derive(Clone, Copy)]
 pub enum Answer {
     Sound,
     Mended { distance: u64 },
@@ -41,7 +41,7 @@ pub enum Answer {
     Unreadable(Reason),
 }
 
-#[derive(Drop)]
+#[derive(Clone, Copy)]
 pub enum Reading {
     Answered(Answer),
     Refused(Refusal),
@@ -49,7 +49,7 @@ pub enum Reading {
 
 // What one coefficient shows: sound and mended have its value, mended the distance of its place too, and unreadable
 // the reason.
-#[derive(Drop)]
+#[derive(Clone, Copy)]
 pub enum Value {
     Sound(f32),
     Mended { value: f32, distance: u64 },
@@ -58,14 +58,14 @@ pub enum Value {
     Unreadable(Reason),
 }
 
-#[derive(Drop)]
+#[derive(Clone, Copy)]
 pub enum Valued {
     Answered(Value),
     Refused(Refusal),
 }
 
 // How many places show each answer.
-#[derive(Drop)]
+#[derive(Clone, Copy)]
 pub struct Counts {
     pub sound: usize,
     pub mended: usize,
@@ -74,7 +74,7 @@ pub struct Counts {
     pub unreadable: usize,
 }
 
-#[derive(Drop)]
+#[derive(Clone, Copy)]
 pub enum Tallied {
     Counted(Counts),
     Refused(Refusal),

@@ -11,7 +11,7 @@ ghost use Rattle.pairing.specs.Meanings.{check_meaning};
 use answers::Refusal;
 use inner::survey::{Surveyed, survey};
 
-#[derive(Drop)]
+#[derive(Clone, Copy)]
 pub enum Checked {
     Places(usize),
     Refused(Refusal),

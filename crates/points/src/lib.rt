@@ -18,13 +18,13 @@ use numbering::inner::{Numbering, Sought, seek, write_point};
 use selectors::inner::{field_of, select};
 use shell::check_shell;
 
-#[derive(Drop)]
+#[derive(Clone, Copy)]
 pub enum Indexed {
     At(u64),
     Refused(Refusal),
 }
 
-#[derive(Drop)]
+#[derive(Clone, Copy)]
 pub enum Pointed {
     Written,
     Refused(Refusal),

@@ -19,7 +19,7 @@ use records::inner::{Named, wrong_record};
 use rows::inner::row::{length, row_at};
 use tables::{Book, Books};
 
-#[derive(Drop)]
+#[derive(Clone, Copy)]
 pub enum Quantized {
     Written,
     Refused(Refusal),

@@ -4,7 +4,7 @@ ghost use Rattle.records.specs.Record.{record_length, record_check, same_bytes, 
 ghost use Rattle.records.specs.Naming.{IsNamed, InField};
 
 // What a record names: the book, the place in that book, and the row of the place.
-#[derive(Drop)]
+#[derive(Clone, Copy)]
 pub struct Named {
     pub book: usize,
     pub place: usize,

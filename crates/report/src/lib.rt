@@ -25,14 +25,14 @@ use tables::{Book, Books};
 use text::inner::lines::write_last_line;
 
 // Lines written: the place from which to go on, and how many bytes they have.
-#[derive(Drop)]
+#[derive(Clone, Copy)]
 pub enum Listed {
     Written { to: usize, size: usize },
     Refused(Refusal),
 }
 
 // A line written: how many bytes it has.
-#[derive(Drop)]
+#[derive(Clone, Copy)]
 pub enum Lined {
     Written(usize),
     Refused(Refusal),

@@ -3,7 +3,7 @@
 #![tactic(auto)]
 
 // What a reading call is given. Any other number than these two is refused.
-#[derive(Drop)]
+#[derive(Clone, Copy)]
 pub struct Mode(pub usize);
 
 pub const PLAIN: usize = 0;
@@ -11,7 +11,7 @@ pub const PLAIN: usize = 0;
 pub const MENDING: usize = 1;
 
 // Why a held record cannot be read.
-#[derive(Drop)]
+#[derive(Clone, Copy)]
 pub enum Reason {
     // 10: radius number not in the row
     NoSuchRadius,
@@ -24,7 +24,7 @@ pub enum Reason {
 }
 
 // What the cell of a place is judged to be: one of the five answers.
-#[derive(Drop)]
+#[derive(Clone, Copy)]
 pub enum Judged {
     // with the radius and the index of its point
     Sound {

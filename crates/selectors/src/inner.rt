@@ -6,7 +6,7 @@ use counts::Field;
 use enumeration::Selector;
 
 // The enumerations: by pattern, shape and signs, where each shape has this field; and by magnitude.
-#[derive(Drop)]
+#[derive(Clone, Copy)]
 pub enum Selected {
     Product(Field),
     Magnitude,

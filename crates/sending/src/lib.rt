@@ -14,7 +14,7 @@ use pairing::inner::books::survey_book;
 use pairing::inner::survey::Surveyed;
 use tables::{Book, Books};
 
-#[derive(Drop)]
+#[derive(Clone, Copy)]
 pub enum Sending {
     Written,
     Refused(Refusal),

@@ -14,7 +14,7 @@ use answers::{Refusal, Verdict};
 use counts::{Field, Length, Radius};
 use ranges::inner::{index_count, largest_radius};
 
-#[derive(Drop)]
+#[derive(Clone, Copy)]
 pub enum Counted {
     Points(u64),
     Refused(Refusal),

@@ -4,11 +4,11 @@
 #![tactic(auto)]
 
 // How many books a page holds. 1 to 16 are good, and any other number is refused.
-#[derive(Drop)]
+#[derive(Clone, Copy)]
 pub struct Books(pub usize);
 
 // Which of the books is meant, numbered from 0.
-#[derive(Drop)]
+#[derive(Clone, Copy)]
 pub struct Book(pub usize);
 
 // The programs have one book.

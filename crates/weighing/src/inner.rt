@@ -15,7 +15,7 @@ use ranges::inner::{pattern_count, range_start, room, shape_count, sign_count};
 
 // Of some coordinates: the number s of those that are nonzero, their sum k, the pattern index, the number of shapes
 // that come after theirs, and the sign index.
-#[derive(Drop)]
+#[derive(Clone, Copy)]
 pub struct Weight {
     pub s: usize,
     pub k: usize,

@@ -7,7 +7,7 @@ use records::inner::Named;
 
 // How a page is kept, how many cells it has, which of them is that of a place, and the book, the place and the row that
 // a record in it is to name.
-#[derive(Drop)]
+#[derive(Clone, Copy)]
 pub struct Spot {
     pub layout: Layout,
     pub cells: usize,

@@ -12,14 +12,14 @@ use coordinates::inner::signed;
 use counts::{Length, Radius};
 
 // What is left to write: the point of index n among those of radius k.
-#[derive(Drop)]
+#[derive(Clone, Copy)]
 pub struct Left {
     pub k: usize,
     pub n: u64,
 }
 
 // A coordinate, and what is left to write behind it.
-#[derive(Drop)]
+#[derive(Clone, Copy)]
 pub struct Step {
     pub c: i32,
     pub left: Left,

@@ -10,7 +10,7 @@ use coordinates::inner::magnitude;
 use counts::Radius;
 
 // Of some coordinates: what their magnitudes sum to, and their index.
-#[derive(Drop)]
+#[derive(Clone, Copy)]
 pub struct Tail {
     pub sum: usize,
     pub index: u64,

@@ -9,7 +9,7 @@ use answers::Refusal;
 use rows::inner::fault::bad_row;
 use rows::inner::row::{places, row_at};
 
-#[derive(Drop)]
+#[derive(Clone, Copy)]
 pub enum Surveyed {
     // the number of places, and the row of the place that was asked for, or the number of rows where there is no
     // such place

@@ -6,7 +6,7 @@ ghost use Rattle.tables.specs.Way.{Placed, Walked, AtRow};
 use rows::inner::row::{places, row_at};
 
 // A row on the way through the places, and the place where it ends.
-#[derive(Drop)]
+#[derive(Clone, Copy)]
 pub struct Walk {
     pub row: usize,
     pub end: usize,

@@ -10,7 +10,7 @@ use judging::inner::{Seen, judge};
 use layout::inner::{record_at, state_at};
 use rules::Mode;
 
-#[derive(Drop)]
+#[derive(Clone, Copy)]
 pub enum Looked {
     Bad,
     At(Seen),

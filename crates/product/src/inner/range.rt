@@ -11,7 +11,7 @@ ghost use Rattle.tables.specs.Usable.{IsUsable};
 use counts::{Field, Length, Radius};
 use ranges::inner::{most_nonzero, range_size, room, shape_count};
 
-#[derive(Drop)]
+#[derive(Clone, Copy)]
 pub struct Range {
     pub s: usize,
     pub start: u64,

@@ -15,7 +15,7 @@ use counts::{Field, Length, Radius};
 use ranges::inner::{pattern_count, room, shape_count};
 
 // The first magnitude of a shape, and the number of the shape that is left.
-#[derive(Drop)]
+#[derive(Clone, Copy)]
 struct First {
     magnitude: usize,
     left: u32,
@@ -64,7 +64,7 @@ fn first_magnitude(s: usize, radius: Radius, shape: u32) -> First
 }
 
 // A coordinate, and the components of what is left to write.
-#[derive(Drop)]
+#[derive(Clone, Copy)]
 struct Step {
     c: i32,
     left: Components,

@@ -30,7 +30,7 @@ use text::inner::lines::write_place_line;
 
 // The places of a book from `from`, which is in this row, to the one before `to`; a page is kept in this layout and has
 // so many books, and a book so many places.
-#[derive(Drop)]
+#[derive(Clone, Copy)]
 pub struct Span {
     pub layout: Layout,
     pub places: usize,
