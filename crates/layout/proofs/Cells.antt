@@ -1,7 +1,7 @@
 -- The cells of a page in any layout: a cell that was set is read back, the others are as they were, the page keeps its
 -- length, and pages of one length with the same cells are the same. Argued from where states and records stand
 -- (proofs/Offsets.antt).
-use Prim.Native.Nat.{ℕ, ◌+◌, ◌-◌, ◌≤◌, ◌<◌}
+use Prim.Native.Nat.{ℕ, ◌+◌, ◌≤◌, ◌<◌}
 use mathlib.Core.Path.{◌≡◌, refl, sym, ap, ap₂, ◌∙◌}
 use mathlib.Core.List.{List}
 use mathlib.Core.Logic.{⊎_elim}
