@@ -1,8 +1,41 @@
-// What a line of the input holds: the letter that it begins with, and numbers, decimal and of 64 bits. A number
+// The input, and what a line of it holds: the letter that it begins with, and numbers, decimal and of 64 bits. A number
 // with a minus sign is taken from 2^64.
-ghost use Rattle.std.specs.Prelude.{◌≡◌, ◌≤◌, length, slice_index};
+ghost use Rattle.std.specs.Prelude.{◌≡◌, ◌+◌, ◌≤◌, length, slice_index, take, drop};
+ghost use Rattle.std.specs.Io.KnownBytes.{Consumes};
 
+use std::io::Read;
 use std::num::{wrapping_add_u64, wrapping_sub_u64};
+
+// Fills the room with what comes, until it is full, the input ends or a read fails; how many bytes these are.
+pub fn read_full<R: Read>(input: &mut R, room: &mut [u8]) -> usize
+    ensures fits { result ≤ length room.new }
+    ensures part { result ≡ length (take result room.new) }
+    ensures came { Consumes (R.remaining input.old) (R.remaining input.new) (take result room.new) }
+{
+    let mut filled = 0;
+    while filled < room.len() {
+        let more = read_more(input, room, filled);
+        if more == 0 {
+            break;
+        }
+        filled += more;
+    }
+    filled
+}
+
+// Reads once into the room, from `filled` on, and answers how many bytes came: none at the end of the input, nor where
+// the read fails.
+fn read_more<R: Read>(input: &mut R, room: &mut [u8], filled: usize) -> usize
+    requires { filled ≤ length room.old }
+    ensures fits { filled + result ≤ length room.old }
+    ensures before { take filled room.new ≡ take filled room.old }
+    ensures came { Consumes (R.remaining input.old) (R.remaining input.new) (take result (drop filled room.new)) }
+{
+    match input.read(&mut room[filled..]) {
+        Ok(more) => more,
+        Err(_) => 0,
+    }
+}
 
 // The first byte of a line, and 0 where there is none.
 pub fn first(line: &[u8]) -> u8
