@@ -1,17 +1,19 @@
 # Functions that build and run programs, to be sourced by a bash script. They use the compiler, the linker, the loader
 # and the C library of the kit, found from `rt doc`: nothing is installed, and no path is fixed. Programs are for
-# x86-64; on another machine the kit has an emulator, and they run behind it.
+# x86-64.
 #
 #   kit_compile FOLDER FILE.c ..        compiles each FILE.c to FOLDER/FILE.o; a warning is an error
 #   kit_compile_folders FOLDER FROM ..  compiles each folder FROM: the files of tests/second/rules to FOLDER/rules
 #   kit_link PROGRAM FILE ..            links objects and archives, in that order, with the C library
 #   kit_run PROGRAM WORD ..             runs a program; the status is the program's own
-#   kit_archive NAME                    proves a library and writes its archive, unless no file has changed since
+#   kit_archive NAME                    proves the library NAME_c, the exports of NAME for C, and writes its archive to
+#                                       target/staticlib/libNAME.a, unless no file has changed since
+#   kit_program NAME ..                 proves each program and builds it to target/bin/NAME, unless no file has changed
 #   kit_level                           the optimisation that kit_compile asks for, -O2 unless the script sets it
 #   kit_home                            what kit_folder prints, if the script has asked already
 # shellcheck shell=bash
 
-# The kit's part for this machine: two levels above the guide, then on/MACHINE.
+# The folder of the guide is the kit.
 kit_folder() {
     local guide
     if [ -n "${kit_home-}" ]; then
@@ -19,7 +21,7 @@ kit_folder() {
         return
     fi
     guide=$(rt doc) || return
-    printf '%s/on/%s\n' "$(dirname "$(dirname "$guide")")" "$(uname -m)"
+    dirname "$guide"
 }
 
 # The kit has no headers of a C library: tools/headers has what the programs use of them, and -nostdinc keeps the
@@ -58,18 +60,33 @@ kit_link() {
 }
 
 kit_run() {
-    local kit program=$1 emulator
+    local kit program=$1
     kit=$(kit_folder) || return
     shift
-    emulator=$kit/toolchain/bin/qemu-x86_64
-    [ -x "$emulator" ] || emulator=
-    ${emulator:+"$emulator"} "$kit/toolchain/lib/ld-linux-x86-64.so.2" --library-path "$kit/toolchain/lib" "$program" "$@"
+    "$kit/toolchain/lib/ld-linux-x86-64.so.2" --library-path "$kit/toolchain/lib" "$program" "$@"
 }
 
-# `rt staticlib` proves the library anew each time. A folder is newer, too, where a file was added or removed.
+# kit_is_old FILE: the file is not there, or a source has changed since. A folder is newer, too, where a file was added
+# or removed.
+kit_is_old() {
+    [ ! -e "$1" ] || [ -n "$(find crates/*/{src,specs,proofs} crates.txt -newer "$1" -print -quit 2>&-)" ]
+}
+
 kit_archive() {
     local archive=target/staticlib/lib$1.a
-    if [ ! -e "$archive" ] || [ -n "$(find crates crates.txt -newer "$archive" -print -quit)" ]; then
-        rt staticlib "$1"
+    if kit_is_old "$archive"; then
+        (cd "crates/$1_c" && rt lib) || return
+        mkdir -p target/staticlib && cp "crates/$1_c/out/lib$1_c.a" "$archive"
     fi
+}
+
+# `rt run` builds a program and starts it where it has no files, so that it writes none. Its status is the program's.
+kit_program() {
+    local name
+    for name in "$@"; do
+        if kit_is_old "target/bin/$name"; then
+            (cd "crates/$name" && rm -f "out/$name" && rt check && { rt run < /dev/null > /dev/null || [ -x "out/$name" ]; }) || return
+            mkdir -p target/bin && cp "crates/$name/out/$name" "target/bin/$name"
+        fi
+    done
 }

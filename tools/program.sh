@@ -8,8 +8,7 @@
 # shellcheck shell=bash
 . "$top/tools/kit.sh"
 
-# Of what the prover writes the lines on each crate are shown, but those on a crate that is as it was; if it fails,
-# all of it is.
+# Of what the prover writes the lines on each function that is proved are shown; if it fails, all of it is.
 program_prove() {
     local name=$1 script=$2
     local said=target/$name.log
@@ -17,7 +16,7 @@ program_prove() {
     if [ ! -x "target/bin/$name" ]; then
         printf '%s: proving and building the program; this takes a few minutes, once\n' "$script" >&2
     fi
-    if ! rt check "$name" 2>&1 | tee "$said" | awk '/^rt: .* proved \([0-9]+ s\)$/ { print; fflush() }' >&2; then
+    if ! kit_program "$name" 2>&1 | tee "$said" | awk '/^fn .*: proved$/ { print; fflush() }' >&2; then
         cat "$said" >&2
         exit 1
     fi

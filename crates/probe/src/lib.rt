@@ -33,8 +33,7 @@ fn refused(refusal: Refusal) -> u64
 }
 
 // The call count.
-#[unsafe(no_mangle)]
-pub extern "C" fn probe_count(length: usize, radius: usize) -> u64
+pub fn probe_count(length: usize, radius: usize) -> u64
     ensures { result ≡ coded (count_says length radius) }
 {
     match count(Length(length), Radius(radius)) {
@@ -44,8 +43,7 @@ pub extern "C" fn probe_count(length: usize, radius: usize) -> u64
 }
 
 // The call index.
-#[unsafe(no_mangle)]
-pub extern "C" fn probe_index(selector: usize, length: usize, radius: usize, x: &[i32]) -> u64
+pub fn probe_index(selector: usize, length: usize, radius: usize, x: &[i32]) -> u64
     ensures { result ≡ coded (index_says selector length radius x.now) }
 {
     match index(Selector(selector), Length(length), Radius(radius), x) {
@@ -65,8 +63,7 @@ fn point_item(answer: Pointed, which: usize) -> u64
 }
 
 // The call point, by an item of what it says.
-#[unsafe(no_mangle)]
-pub extern "C" fn probe_point(
+pub fn probe_point(
     selector: usize,
     length: usize,
     radius: usize,
@@ -104,16 +101,14 @@ fn check_value(answer: Checked) -> usize
 }
 
 // The call check, by its number.
-#[unsafe(no_mangle)]
-pub extern "C" fn probe_check(table: &[u8]) -> u32
+pub fn probe_check(table: &[u8]) -> u32
     ensures { result ≡ number_said (check_says table.now) }
 {
     check_number(check(table))
 }
 
 // The call check, by its value.
-#[unsafe(no_mangle)]
-pub extern "C" fn probe_check_value(table: &[u8]) -> usize
+pub fn probe_check_value(table: &[u8]) -> usize
     ensures { result ≡ valued (check_says table.now) }
 {
     check_value(check(table))
@@ -140,8 +135,7 @@ fn quantize_value(answer: Quantized) -> usize
 }
 
 // The call quantize, by its number.
-#[unsafe(no_mangle)]
-pub extern "C" fn probe_quantize(
+pub fn probe_quantize(
     table: &[u8],
     books: usize,
     book: usize,
@@ -156,8 +150,7 @@ pub extern "C" fn probe_quantize(
 }
 
 // The call quantize, by its value.
-#[unsafe(no_mangle)]
-pub extern "C" fn probe_quantize_value(
+pub fn probe_quantize_value(
     table: &[u8],
     books: usize,
     book: usize,

@@ -21,8 +21,7 @@ use rules::Mode;
 use tables::{Book, Books};
 
 // The call take.
-#[unsafe(no_mangle)]
-pub extern "C" fn probe_take(
+pub fn probe_take(
     table: &[u8],
     books: usize,
     layout: usize,
@@ -42,8 +41,7 @@ pub extern "C" fn probe_take(
 }
 
 // The call collect.
-#[unsafe(no_mangle)]
-pub extern "C" fn probe_collect(
+pub fn probe_collect(
     table: &[u8],
     books: usize,
     layout: usize,
@@ -59,8 +57,7 @@ pub extern "C" fn probe_collect(
 }
 
 // The call read.
-#[unsafe(no_mangle)]
-pub extern "C" fn probe_read(
+pub fn probe_read(
     mode: usize,
     table: &[u8],
     books: usize,
@@ -92,8 +89,7 @@ pub extern "C" fn probe_read(
 }
 
 // The call coefficient, by what it says.
-#[unsafe(no_mangle)]
-pub extern "C" fn probe_coefficient(
+pub fn probe_coefficient(
     mode: usize,
     table: &[u8],
     books: usize,
@@ -123,8 +119,7 @@ pub extern "C" fn probe_coefficient(
 }
 
 // The call coefficient, by the value that it carries, or positive zero.
-#[unsafe(no_mangle)]
-pub extern "C" fn probe_coefficient_value(
+pub fn probe_coefficient_value(
     mode: usize,
     table: &[u8],
     books: usize,
@@ -150,8 +145,7 @@ pub extern "C" fn probe_coefficient_value(
 }
 
 // The call tally.
-#[unsafe(no_mangle)]
-pub extern "C" fn probe_tally(
+pub fn probe_tally(
     mode: usize,
     table: &[u8],
     books: usize,
@@ -177,8 +171,7 @@ pub extern "C" fn probe_tally(
 }
 
 // The call lines.
-#[unsafe(no_mangle)]
-pub extern "C" fn probe_lines(
+pub fn probe_lines(
     mode: usize,
     table: &[u8],
     books: usize,
@@ -210,8 +203,7 @@ pub extern "C" fn probe_lines(
 }
 
 // The call to_states_first.
-#[unsafe(no_mangle)]
-pub extern "C" fn probe_to_states_first(
+pub fn probe_to_states_first(
     table: &[u8],
     books: usize,
     cell_by_cell: &[u8],
@@ -229,8 +221,7 @@ pub extern "C" fn probe_to_states_first(
 }
 
 // The call to_cell_by_cell.
-#[unsafe(no_mangle)]
-pub extern "C" fn probe_to_cell_by_cell(
+pub fn probe_to_cell_by_cell(
     table: &[u8],
     books: usize,
     states_first: &[u8],
@@ -248,8 +239,7 @@ pub extern "C" fn probe_to_cell_by_cell(
 }
 
 // The call send.
-#[unsafe(no_mangle)]
-pub extern "C" fn probe_send(
+pub fn probe_send(
     table: &[u8],
     books: usize,
     book: usize,

@@ -19,16 +19,14 @@ use shell::{Counted, count};
 use tables::Books;
 
 // The version of the calls and of what they are lent.
-#[unsafe(no_mangle)]
-pub extern "C" fn aldrynja_version() -> u32
+pub fn aldrynja_version() -> u32
     ensures { result ≡ version }
 {
     6
 }
 
 // The call count: N, or 0 for a refusal.
-#[unsafe(no_mangle)]
-pub extern "C" fn aldrynja_count(length: u64, radius: u64) -> u64
+pub fn aldrynja_count(length: u64, radius: u64) -> u64
     ensures { result ≡ count_gives length radius }
 {
     match count(Length(length as usize), Radius(radius as usize)) {
@@ -38,13 +36,7 @@ pub extern "C" fn aldrynja_count(length: u64, radius: u64) -> u64
 }
 
 // The call take on a page that is kept states first: 0, or the number of the refusal.
-#[unsafe(no_mangle)]
-pub extern "C" fn aldrynja_take(
-    table: &[u8],
-    books: u64,
-    states_first: &mut [u8],
-    bytes: &[u8],
-) -> u32
+pub fn aldrynja_take(table: &[u8], books: u64, states_first: &mut [u8], bytes: &[u8]) -> u32
     ensures { (result ≡ take_gives table.now books states_first.old bytes.now)
         × (states_first.new ≡ take_keeps table.now books states_first.old bytes.now) }
 {
@@ -71,8 +63,7 @@ fn conversion_number(conversion: Conversion) -> u32
 }
 
 // The call to_states_first, for a page that was kept cell by cell: 0, or the number of the refusal.
-#[unsafe(no_mangle)]
-pub extern "C" fn aldrynja_to_states_first(
+pub fn aldrynja_to_states_first(
     table: &[u8],
     books: u64,
     cell_by_cell: &[u8],
@@ -86,8 +77,7 @@ pub extern "C" fn aldrynja_to_states_first(
 }
 
 // The call to_cell_by_cell, the way back: 0, or the number of the refusal.
-#[unsafe(no_mangle)]
-pub extern "C" fn aldrynja_to_cell_by_cell(
+pub fn aldrynja_to_cell_by_cell(
     table: &[u8],
     books: u64,
     states_first: &[u8],

@@ -1,0 +1,68 @@
+// The exports for C of the calls of `slate`, by their names: include/aldrynja.h declares them. Each is the call and
+// nothing more, with its clauses.
+#![tactic(auto)]
+
+ghost use Rattle.std.specs.Prelude.{◌≡◌};
+ghost use Rattle.layout.specs.declared.Layout.TheVariants as layouts;
+ghost use Rattle.rules.specs.Layouts.{convert_leaves};
+ghost use Rattle.slate.specs.Given.{version, count_gives, take_gives, take_keeps, convert_gives};
+
+// The version of the calls and of what they are lent.
+#[unsafe(no_mangle)]
+pub extern "C" fn aldrynja_version() -> u32
+    ensures { result ≡ version }
+{
+    slate::aldrynja_version()
+}
+
+// The call count: N, or 0 for a refusal.
+#[unsafe(no_mangle)]
+pub extern "C" fn aldrynja_count(length: u64, radius: u64) -> u64
+    ensures { result ≡ count_gives length radius }
+{
+    slate::aldrynja_count(length, radius)
+}
+
+// The call take on a page that is kept states first: 0, or the number of the refusal.
+#[unsafe(no_mangle)]
+pub extern "C" fn aldrynja_take(
+    table: &[u8],
+    books: u64,
+    states_first: &mut [u8],
+    bytes: &[u8],
+) -> u32
+    ensures { (result ≡ take_gives table.now books states_first.old bytes.now)
+        × (states_first.new ≡ take_keeps table.now books states_first.old bytes.now) }
+{
+    slate::aldrynja_take(table, books, states_first, bytes)
+}
+
+// The call to_states_first, for a page that was kept cell by cell: 0, or the number of the refusal.
+#[unsafe(no_mangle)]
+pub extern "C" fn aldrynja_to_states_first(
+    table: &[u8],
+    books: u64,
+    cell_by_cell: &[u8],
+    states_first: &mut [u8],
+) -> u32
+    ensures { (result ≡ convert_gives table.now books cell_by_cell.now states_first.old)
+        × (states_first.new ≡ convert_leaves layouts.CellByCell layouts.StatesFirst
+        table.now books cell_by_cell.now states_first.old) }
+{
+    slate::aldrynja_to_states_first(table, books, cell_by_cell, states_first)
+}
+
+// The call to_cell_by_cell, the way back: 0, or the number of the refusal.
+#[unsafe(no_mangle)]
+pub extern "C" fn aldrynja_to_cell_by_cell(
+    table: &[u8],
+    books: u64,
+    states_first: &[u8],
+    cell_by_cell: &mut [u8],
+) -> u32
+    ensures { (result ≡ convert_gives table.now books states_first.now cell_by_cell.old)
+        × (cell_by_cell.new ≡ convert_leaves layouts.StatesFirst layouts.CellByCell
+        table.now books states_first.now cell_by_cell.old) }
+{
+    slate::aldrynja_to_cell_by_cell(table, books, states_first, cell_by_cell)
+}
