@@ -1,0 +1,7 @@
+use Rattle.std.proofs.Common.{rules}
+use Rattle.tables.specs.Row.{byte_of}
+use Rattle.rows.proofs.inner.row.byte.Goals as goal
+
+pub returns : goal.returns
+unfolding byte_of
+returns c = search rules
