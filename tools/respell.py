@@ -1,7 +1,7 @@
 #!/usr/bin/env python3
 """Respells the repository's own definitions, lemmas, fields and variables in the way of today's Rattle.
 
-usage: tools/respell.py [--list]     at the top, once, after /opt/rattle/port/port.py; --list only prints what would change
+usage: tools/respell.py [--list]     at the top, once, after the kit's port/port.py; --list only prints what would change
 
 A word that is no type is in snake case: eachFrom is each_from, right-length is right_length, N-grows is N_grows. Types
 keep their names, and so do the rules' own letters (N, D, S, R, O, B, F), since the small letters are variables. Names

@@ -1,7 +1,7 @@
 # A function that holds calls to the cases that are stored with a test, to be sourced by a bash script at the top of the
 # repository. tools/kit.sh is sourced here too.
 #
-#   hold_stored NAME CASES             our archive, target/staticlib/libprobe.a, which `rt staticlib probe` proves and
+#   hold_stored NAME CASES             our archive, target/staticlib/libprobe.a, which `tools/archive probe` proves and
 #                                      writes first
 #   hold_stored NAME CASES ARCHIVE     another one with the calls of tests/second/probe.h
 #

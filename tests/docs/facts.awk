@@ -20,7 +20,7 @@ FNR == 1 {
 }
 /^[ ]*(\/\/|--)/ { next }
 FILENAME ~ /Demand1/ {
-    if (match($0, /^  pub [a-z0-9-]+ :/))
+    if (match($0, /^  pub [a-z0-9_]+ :/))
         call = substr($0, RSTART + 6, RLENGTH - 8)
     if (match($0, /Refusing \([0-9][^)]*\)/)) {
         order = substr($0, RSTART + 10, RLENGTH - 11)

@@ -14,7 +14,8 @@ function floor(crate,    used, uses, i, most) {
 }
 /^#/ && FNR == NR { next }
 FNR == NR {
-    crate = substr($1, 1, length($1) - 1)
+    crate = $1
+    sub(/:$/, "", crate)
     sub(/^[^:]*:/, "")
     below[crate] = $0
     next
