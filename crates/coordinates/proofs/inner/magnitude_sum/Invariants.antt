@@ -1,3 +1,4 @@
+-- What each turn of the loop keeps in `coordinates::inner::magnitude_sum`, and what falls with each turn.
 use Rattle.std.proofs.Common.{◌≡◌, ◌-◌, ◌*◌, ◌≤◌, length, drop}
 use Rattle.enumeration.specs.Point.{radius_of}
 use Rattle.coordinates.proofs.inner.magnitude_sum.Given as goal

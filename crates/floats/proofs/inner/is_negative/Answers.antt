@@ -1,3 +1,4 @@
+-- `floats::inner::is_negative` tests whether a coefficient is below zero.
 use Rattle.std.proofs.Common.{refl}
 use lib.Ieee.{of_bits}
 use Rattle.floats.specs.Units.{negative}

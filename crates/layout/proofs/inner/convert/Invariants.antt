@@ -1,3 +1,4 @@
+-- What each turn of the loop keeps in `layout::inner::convert`, and what falls with each turn.
 use Rattle.std.proofs.Common.{◌≡◌, ◌-◌, ◌≤◌, length}
 use Rattle.layout.proofs.Converting.{SameTo}
 use Rattle.layout.proofs.inner.convert.Given as goal

@@ -1,3 +1,4 @@
+-- What each turn of the loop keeps in `layout::inner::store`, and what falls with each turn.
 use Rattle.std.proofs.Common.{◌≡◌, ◌-◌, ◌≤◌, length}
 use Rattle.buffers.specs.Written.{written}
 use Rattle.layout.proofs.inner.store.Given as goal

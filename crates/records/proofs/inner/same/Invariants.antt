@@ -1,3 +1,4 @@
+-- What each turn of the loop keeps in `records::inner::same`, and what falls with each turn.
 use Rattle.std.proofs.Common.{◌≡◌, ◌-◌, ◌≤◌, length, drop}
 use Rattle.records.specs.Record.{same_bytes}
 use Rattle.records.proofs.inner.same.Given as goal

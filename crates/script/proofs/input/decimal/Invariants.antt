@@ -1,3 +1,4 @@
+-- What falls with each turn in `script::input::decimal`.
 use Rattle.std.proofs.Common.{◌-◌}
 use Rattle.script.proofs.input.decimal.Given as goal
 

@@ -1,3 +1,4 @@
+-- What each turn of the loop keeps in `script::input::digits_end`, and what falls with each turn.
 use Rattle.std.proofs.Common.{◌-◌, ◌≤◌, length}
 use Rattle.script.proofs.input.digits_end.Given as goal
 

@@ -1,3 +1,4 @@
+-- What each turn of the loop keeps in `script::input::read_numbers`, and what falls with each turn.
 use Rattle.std.proofs.Common.{◌≡◌, ◌-◌, ◌≤◌, length}
 use Rattle.script.proofs.input.read_numbers.Given as goal
 

@@ -1,3 +1,5 @@
+-- `shares::inner::divide` puts the whole parts and the remainders where they belong, coordinate by coordinate: what
+-- is not reached yet is still the magnitude.
 use Rattle.std.proofs.Common.{◌≡◌, ◌≤◌, ◌^◌, ◌*◌, ◌/◌, ◌%◌, map, get_or, sym, ap, ◌∙◌}
 use native.Mathlib.Omega.{arith}
 use native.Mathlib.Nat.{le_trans, le_of_eq, lt_of_le_of_lt, mul-le-mul}

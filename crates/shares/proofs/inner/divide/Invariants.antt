@@ -1,3 +1,4 @@
+-- What each turn of the loop keeps in `shares::inner::divide`, and what falls with each turn.
 use Rattle.std.proofs.Common.{length, ◌-◌, ◌≡◌, map, ◌≤◌}
 use Rattle.buffers.specs.Written.{written}
 use Rattle.shares.specs.Shares.{whole_part, remainder}

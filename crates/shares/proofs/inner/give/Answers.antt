@@ -1,3 +1,5 @@
+-- `shares::inner::give` hands out the units one by one: what is left to give, to what the buffers hold, comes to
+-- the same as all of it.
 use Rattle.std.proofs.Common.{◌≡◌, ◌+◌, ◌<◌, length, get_or, ◌∙◌}
 use native.Mathlib.Omega.{arith}
 use lib.ListN.{length-set}

@@ -1,3 +1,4 @@
+-- What each turn of the loop keeps in `shares::inner::give`, and what falls with each turn.
 use Rattle.std.proofs.Common.{◌≡◌, ◌+◌, ◌≤◌, length}
 use Rattle.enumeration.specs.Point.{sum_of}
 use Rattle.shares.specs.Shares.{give, left_of}

@@ -1,3 +1,5 @@
+-- `shares::inner::largest` gives the first largest remainder: at each coordinate the loop has the first best of
+-- those up to it, and its remainder.
 use Rattle.std.proofs.Common.{◌≡◌, ◌+◌, ◌-◌, ℕ, length, get_or, refl, ap, ◌∙◌}
 use native.Mathlib.Omega.{arith}
 use borrow.Author.Tests.{lt-ltb, le-ltb}

@@ -1,3 +1,4 @@
+-- What each turn of the loop keeps in `shares::inner::largest`, and what falls with each turn.
 use Rattle.std.proofs.Common.{◌-◌, ◌≤◌, ℕ, get_or}
 use Rattle.shares.specs.Best.{larger}
 use Rattle.shares.proofs.Best.{Scan}

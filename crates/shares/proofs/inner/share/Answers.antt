@@ -1,3 +1,4 @@
+-- `shares::inner::share` divides, and gives what is left of the radius to the largest remainders.
 use Rattle.shares.proofs.Divided.{summable, sum_fits, givable, given}
 use Rattle.shares.proofs.inner.share.Goals as goal
 

@@ -1,3 +1,4 @@
+-- What each turn of the loop keeps in `shares::inner::sum`, and what falls with each turn.
 use Rattle.std.proofs.Common.{◌≡◌, ◌-◌, ◌*◌, ◌^◌, ◌≤◌, length, drop}
 use Rattle.enumeration.specs.Point.{sum_of}
 use Rattle.shares.proofs.inner.sum.Given as goal

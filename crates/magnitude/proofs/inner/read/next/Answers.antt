@@ -1,3 +1,4 @@
+-- `magnitude::inner::read::next` gives the first coordinate and what is left behind it.
 use mathlib.Core.Path.{◌∙◌}
 use native.Mathlib.Nat.{le_refl}
 use borrow.Author.Rules.{sfits_of}

@@ -1,3 +1,5 @@
+-- `magnitude::inner::read::pass` passes the magnitudes before the first: with k left to the rest, what is left of the
+-- number is that of what sums to k+1.
 use Prim.Native.Nat.{suc, ◌-◌}
 use mathlib.Core.Path.{◌≡◌, refl}
 use native.Mathlib.Omega.{arith}

@@ -1,3 +1,4 @@
+-- What each turn of the loop keeps in `magnitude::inner::read::pass`, and what falls with each turn.
 use Prim.Native.Nat.{suc}
 use mathlib.Core.Path.{◌≡◌}
 use Rattle.enumeration.proofs.Passing.{Passing}

@@ -1,3 +1,5 @@
+-- `magnitude::inner::read::write` writes the point: at each turn the coordinates before `at` stand there, the rest is
+-- what is left to write, and the row of counts is that of one coordinate less.
 use borrow.Author.Rules.{rules}
 use mathlib.Core.Path.{refl, ◌∙◌}
 use Prim.Native.Nat.{◌-◌}

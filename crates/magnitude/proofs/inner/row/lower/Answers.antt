@@ -1,3 +1,4 @@
+-- `magnitude::inner::row::lower` turns the row into the row below, number by number.
 use mathlib.Core.Path.{refl}
 use native.Mathlib.Omega.{arith}
 use Rattle.magnitude.specs.Rows.{below}

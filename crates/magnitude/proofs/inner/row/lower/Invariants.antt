@@ -1,3 +1,4 @@
+-- What each turn of the loop keeps in `magnitude::inner::row::lower`, and what falls with each turn.
 use Prim.Native.Nat.{◌-◌, ◌≤◌}
 use Rattle.magnitude.specs.Rows.{below}
 use Rattle.magnitude.proofs.Rows.{Turned}

@@ -1,3 +1,4 @@
+-- `magnitude::inner::row::make` raises the row of length 0 as often as the length says.
 use borrow.Author.Rules.{rules}
 use native.Mathlib.Numerals.{add-one}
 use native.Mathlib.Omega.{arith}

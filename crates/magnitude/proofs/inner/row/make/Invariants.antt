@@ -1,3 +1,4 @@
+-- What each turn of the loop keeps in `magnitude::inner::row::make`, and what falls with each turn.
 use Prim.Native.Nat.{◌-◌, ◌≤◌}
 use mathlib.Core.Path.{◌≡◌}
 use lib.ListN as listed

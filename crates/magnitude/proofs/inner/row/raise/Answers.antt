@@ -1,3 +1,4 @@
+-- `magnitude::inner::row::raise` turns the row into the row above, number by number.
 use mathlib.Core.Path.{refl}
 use native.Mathlib.Omega.{arith}
 use Rattle.magnitude.specs.Rows.{above}

@@ -1,3 +1,4 @@
+-- What each turn of the loop keeps in `magnitude::inner::row::raise`, and what falls with each turn.
 use Prim.Native.Nat.{◌-◌, ◌≤◌}
 use Rattle.magnitude.specs.Rows.{above}
 use Rattle.magnitude.proofs.Rows.{Turned}

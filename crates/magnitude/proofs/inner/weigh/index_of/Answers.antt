@@ -1,3 +1,4 @@
+-- `magnitude::inner::weigh::index_of` gathers the whole point: at each turn what stands from `at` on.
 use borrow.Author.Rules.{rules}
 use native.Mathlib.Omega.{arith}
 use Rattle.magnitude.proofs.Tails.{gathered_none}

@@ -1,3 +1,4 @@
+-- What each turn of the loop keeps in `magnitude::inner::weigh::index_of`, and what falls with each turn.
 use Prim.Native.Nat.{◌≤◌}
 use lib.ListN.{length}
 use Rattle.magnitude.specs.Tails.{Gathered}

@@ -1,3 +1,5 @@
+-- `magnitude::inner::weigh::with_coordinate` gives the tail from `at` on: a zero adds nothing, and another coordinate
+-- its offset, which is made of the row and of the row above.
 use borrow.Author.Rules.{rules}
 use Prim.Native.Nat.{ℕ, suc, ◌<◌}
 use mathlib.Core.Path.{◌≡◌, ap, ◌∙◌}

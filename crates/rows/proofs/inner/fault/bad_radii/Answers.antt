@@ -1,3 +1,4 @@
+-- `rows::inner::fault::bad_radii`: the positions before `number` are found good.
 use Rattle.std.proofs.Common.{refl, sym, ◌∙◌}
 use native.Mathlib.Omega.{arith}
 use Rattle.tables.specs.Row.{bad_radii}

@@ -1,3 +1,4 @@
+-- What each turn of the loop keeps in `rows::inner::fault::bad_radii`, and what falls with each turn.
 use Rattle.std.proofs.Common.{◌≡◌, ◌-◌, ◌≤◌, false}
 use Rattle.tables.specs.Row.{bad_radii}
 use Rattle.rows.proofs.inner.fault.bad_radii.Given as goal

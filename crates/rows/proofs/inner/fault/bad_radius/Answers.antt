@@ -1,3 +1,5 @@
+-- `rows::inner::fault::bad_radius`: an unused position is held to 0, and a used one to the order and to the largest
+-- usable radius.
 use Rattle.std.proofs.Common.{ℕ, sym, ap, ◌∙◌}
 use mathlib.Core.Bool.{not}
 use lib.Dec.{eqb, ltb}

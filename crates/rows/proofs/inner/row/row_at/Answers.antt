@@ -1,3 +1,4 @@
+-- `rows::inner::row::row_at` lends the 16 bytes of a row.
 use Rattle.std.proofs.Common.{ℕ, List, ◌+◌, ◌-◌, ◌*◌, ◌≡◌, refl, ap, ◌∙◌, length, take, drop}
 use native.Mathlib.Omega.{arith}
 use Rattle.tables.proofs.Rows.{row_length_lem}
