@@ -1,9 +1,9 @@
 /* Aldrynja for C: the count of the points of a shell, the taking of a record into a page, the conversions of a page
    between its two layouts, and the version of all of these.
 
-   `tools/archive slate` writes target/staticlib/libslate.a, an archive for x86-64 Linux; link with it and the C library.
-   `tools/install DESTDIR` installs this header, and the archive as libaldrynja.a. The rules are those of docs/RULES.md,
-   whose headings the comments cite.
+   `tools/archive slate` writes target/staticlib/libslate.a, an archive for x86-64 Linux; link with it and the C
+   library. `tools/install DESTDIR` installs this header, and the archive as libaldrynja.a. The rules are those of
+   docs/RULES.md, whose headings the comments cite.
    No call keeps anything from one call to the next, allocates memory, stops the program, or writes to anything but the
    page that the call is lent to be written. */
 

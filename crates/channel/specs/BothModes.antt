@@ -47,7 +47,8 @@ pub record BothModes : Type 0 where
       → (read_says other t books book pg p out ≡ sound_says) × (read_leaves other t books book pg p out ≡ read_leaves mode t books book pg p out)
   pub coefficient_sound : (mode other : ℕ) → no_such_mode other ≡ false → (t : List ℕ) (books book : ℕ) (pg : List ℕ) (p i : ℕ)
       → coefficient_says mode t books book pg p i ≡ sound_says
-      → (coefficient_says other t books book pg p i ≡ sound_says) × (coefficient_carries other t books book pg p i ≡ coefficient_carries mode t books book pg p i)
+      → (coefficient_says other t books book pg p i ≡ sound_says)
+      × (coefficient_carries other t books book pg p i ≡ coefficient_carries mode t books book pg p i)
   -- where no codeword overflows both modes answer alike
   pub read_alike : (t : List ℕ) (books book : ℕ) (pg : List ℕ) (p : ℕ) (out : List ℤ) → (OverflowsAt t pg book p → ⊥)
       → (read_says plain t books book pg p out ≡ read_says mending t books book pg p out)

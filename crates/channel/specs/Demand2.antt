@@ -106,8 +106,10 @@ pub record Quantizes (t : List ℕ) (book p : ℕ) (w : List Float) (r : List �
   pub nearest : (i : ℕ) → i < length w → IsNearest (256 * units_of (get_or w i nan)) (2 ^ 149) (nearest_whole (get_or w i nan))
   -- the radius is one of the row's, and the first that is least
   pub in_row : radius_number_for (row_for t p) w < radii_of (row_for t p)
-  pub least : (n : ℕ) → n < radii_of (row_for t p) → miss_by (row_for t p) (total_of w) (radius_number_for (row_for t p) w) ≤ miss_by (row_for t p) (total_of w) n
-  pub first : (n : ℕ) → n < radii_of (row_for t p) → miss_by (row_for t p) (total_of w) n ≡ miss_by (row_for t p) (total_of w) (radius_number_for (row_for t p) w)
+  pub least : (n : ℕ) → n < radii_of (row_for t p)
+      → miss_by (row_for t p) (total_of w) (radius_number_for (row_for t p) w) ≤ miss_by (row_for t p) (total_of w) n
+  pub first : (n : ℕ) → n < radii_of (row_for t p)
+      → miss_by (row_for t p) (total_of w) n ≡ miss_by (row_for t p) (total_of w) (radius_number_for (row_for t p) w)
       → radius_for (row_for t p) w ≤ radius_at (row_for t p) n
   -- the point's magnitudes sum to it
   pub on_shell : OnShell (length_for t p) (radius_for (row_for t p) w) (point_for (row_for t p) w)

@@ -46,7 +46,8 @@ pub record AsConverted (from to : Layout) (t : List ℕ) (books : ℕ) (pg : Lis
   pub lines_says_lem : (mode book p : ℕ) (held : List ℕ)
       → lines_says mode t books book (as_cells from t books pg) p held ≡ lines_says mode t books book (as_cells to t books (turned from to t books pg)) p held
   pub lines_leaves_lem : (mode book p : ℕ) (held : List ℕ)
-      → lines_leaves mode t books book (as_cells from t books pg) p held ≡ lines_leaves mode t books book (as_cells to t books (turned from to t books pg)) p held
+      → lines_leaves mode t books book (as_cells from t books pg) p held
+      ≡ lines_leaves mode t books book (as_cells to t books (turned from to t books pg)) p held
 
 pub record Layouts : Type 0 where
   -- a page turned into another layout has the length that it had, and turned back it is the page that it was

@@ -6,7 +6,8 @@ ghost use Rattle.conversion.specs.Meanings.{conversion_meaning};
 ghost use Rattle.report.specs.Meanings.{listed_meaning};
 ghost use Rattle.rules.specs.Judging.{reason_number, reason_distance};
 ghost use Rattle.sending.specs.Meanings.{send_meaning};
-ghost use Rattle.page.specs.Meanings.{take_meaning, answer_meaning, read_meaning, value_meaning, values_in, coefficient_meaning, coefficient_values, tally_meaning};
+ghost use Rattle.page.specs.Meanings.{take_meaning, answer_meaning, read_meaning, value_meaning, values_in};
+ghost use Rattle.page.specs.Meanings.{coefficient_meaning, coefficient_values, tally_meaning};
 ghost use Rattle.probe.specs.Coded.{positive_zero};
 
 use answers::{Refusal, in_numbers};

@@ -14,4 +14,6 @@ sender_says t bytes = send_says t one_book only_book (run_of bytes) (replicate (
 
 -- what the sender prints: the line of a refusal, and nothing once the page is sent
 abbrev pub sender_prints : List ℕ → List ℕ → List ℕ
-sender_prints t bytes = pick (any_of (fails_of (send_checks t one_book only_book (run_of bytes) (records_length t)))) (refused_text (printed (sender_says t bytes))) []
+sender_prints t bytes =
+    pick (any_of (fails_of (send_checks t one_book only_book (run_of bytes) (records_length t))))
+    (refused_text (printed (sender_says t bytes))) []
