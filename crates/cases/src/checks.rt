@@ -11,33 +11,33 @@ use script::input::number;
 use script::output;
 
 // table, and then the table: its places, by the call check.
-pub fn check(numbers: &[u64], room: &mut [u8]) {
-    run(numbers, 0, room);
+pub fn check(rt: &impl Print, numbers: &[u64], room: &mut [u8]) {
+    run(rt, numbers, 0, room);
 }
 
 // row P, and then a table: of place P the row; and the row's length, step, places and radii.
-pub fn place(numbers: &[u64], room: &mut [u8]) {
-    run(numbers, 1, room);
+pub fn place(rt: &impl Print, numbers: &[u64], room: &mut [u8]) {
+    run(rt, numbers, 1, room);
 }
 
 // The table stands from `first` on, and is made in the room that is lent.
-fn run(numbers: &[u64], first: usize, room: &mut [u8])
+fn run(rt: &impl Print, numbers: &[u64], first: usize, room: &mut [u8])
     requires { first < 2 }
 {
     let size = number(numbers, first) as usize;
     if size <= room.len() {
-        case(&mut room[..size], numbers, first);
+        case(rt, &mut room[..size], numbers, first);
     }
 }
 
-fn case(table: &mut [u8], numbers: &[u64], first: usize)
+fn case(rt: &impl Print, table: &mut [u8], numbers: &[u64], first: usize)
     requires { first < 2 }
 {
     make(table, numbers, first + 1);
     if first == 0 {
-        checked(table);
+        checked(rt, table);
     } else {
-        surveyed(table, number(numbers, 0) as usize);
+        surveyed(rt, table, number(numbers, 0) as usize);
     }
 }
 
@@ -75,47 +75,47 @@ fn put(table: &mut [u8], at: usize, value: u64) {
     }
 }
 
-fn checked(table: &[u8]) {
+fn checked(rt: &impl Print, table: &[u8]) {
     match pairing::check(table) {
-        Checked::Places(n) => output::answered(n as u64),
-        Checked::Refused(refusal) => output::refused(refusal),
+        Checked::Places(n) => output::answered(rt, n as u64),
+        Checked::Refused(refusal) => output::refused(rt, refusal),
     }
 }
 
-fn surveyed(table: &[u8], place: usize) {
+fn surveyed(rt: &impl Print, table: &[u8], place: usize) {
     match survey(table, place) {
         Surveyed::Good { places, row } => {
             if place < places {
-                fields(row_at(table, row), row);
+                fields(rt, row_at(table, row), row);
             } else {
-                output::none();
-                output::next(places as u64);
+                output::none(rt);
+                output::next(rt, places as u64);
             }
         }
-        Surveyed::Bad(refusal) => output::refused(refusal),
+        Surveyed::Bad(refusal) => output::refused(rt, refusal),
     }
 }
 
-fn fields(row: &[u8], number: usize)
+fn fields(rt: &impl Print, row: &[u8], number: usize)
     requires { length row.now ≡ row_length }
 {
-    output::said(number as u64);
-    output::colon();
-    output::next(row::length(row).0 as u64);
-    output::next(row::step(row) as u64);
-    output::next(row::places(row) as u64);
-    output::colon();
-    radii(row);
+    output::said(rt, number as u64);
+    output::colon(rt);
+    output::next(rt, row::length(row).0 as u64);
+    output::next(rt, row::step(row) as u64);
+    output::next(rt, row::places(row) as u64);
+    output::colon(rt);
+    radii(rt, row);
 }
 
 // The radii that are in the row.
-fn radii(row: &[u8])
+fn radii(rt: &impl Print, row: &[u8])
     requires { length row.now ≡ row_length }
 {
     let mut n = 0;
     while n < 8 {
         if n < row::radii(row) {
-            output::next(row::radius(row, n).0 as u64);
+            output::next(rt, row::radius(row, n).0 as u64);
         }
         n += 1;
     }

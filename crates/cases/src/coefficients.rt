@@ -16,32 +16,40 @@ fn coefficient(n: u64) -> f32 {
 }
 
 // nearest B: the magnitude of the whole number nearest to 256 times the coefficient.
-pub fn nearest(numbers: &[u64]) {
+pub fn nearest(rt: &impl Print, numbers: &[u64]) {
     let x = coefficient(number(numbers, 0));
     if is_unusable(x) {
-        output::refused(Refusal::UnusableCoefficient { coordinate: 0 });
+        output::refused(rt, Refusal::UnusableCoefficient { coordinate: 0 });
     } else {
-        output::answered(nearest_whole(x) as u64);
+        output::answered(rt, nearest_whole(x) as u64);
     }
 }
 
 // quantize P B C, then C coefficients and a table: what the call says of place P with a record of B bytes, and what
 // these are then. Send 0 B C, then the same: what the call says of the page with a buffer of B bytes, and what these
 // are then. The letter tells the call.
-pub fn run(call: u8, shelf: Shelf, numbers: &[u64], room: &mut [u8]) {
+pub fn run(rt: &impl Print, call: u8, shelf: Shelf, numbers: &[u64], room: &mut [u8]) {
     let mut coefficients = [0.0f32; 20];
     let count = number(numbers, 2) as usize;
     if count <= 20 {
-        with_vector(call, shelf, numbers, &mut coefficients[..count], room);
+        with_vector(rt, call, shelf, numbers, &mut coefficients[..count], room);
     }
 }
 
-fn with_vector(call: u8, shelf: Shelf, numbers: &[u64], coefficients: &mut [f32], room: &mut [u8]) {
+fn with_vector(
+    rt: &impl Print,
+    call: u8,
+    shelf: Shelf,
+    numbers: &[u64],
+    coefficients: &mut [f32],
+    room: &mut [u8],
+) {
     fill(numbers, coefficients);
     let first = 3 + coefficients.len();
     let size = number(numbers, first) as usize;
     if size <= room.len() {
         with_table(
+            rt,
             call,
             shelf,
             numbers,
@@ -61,6 +69,7 @@ fn fill(numbers: &[u64], coefficients: &mut [f32]) {
 }
 
 fn with_table(
+    rt: &impl Print,
     call: u8,
     shelf: Shelf,
     numbers: &[u64],
@@ -73,6 +82,7 @@ fn with_table(
     let size = number(numbers, 1) as usize;
     if size <= 40 {
         called(
+            rt,
             call,
             shelf,
             table,
@@ -84,6 +94,7 @@ fn with_table(
 }
 
 fn called(
+    rt: &impl Print,
     call: u8,
     shelf: Shelf,
     table: &[u8],
@@ -92,33 +103,40 @@ fn called(
     out: &mut [u8],
 ) {
     match call {
-        b'q' => quantized(shelf, table, place, coefficients, out),
-        _ => sent(shelf, table, coefficients, out),
+        b'q' => quantized(rt, shelf, table, place, coefficients, out),
+        _ => sent(rt, shelf, table, coefficients, out),
     }
 }
 
-fn quantized(shelf: Shelf, table: &[u8], place: usize, coefficients: &[f32], out: &mut [u8]) {
+fn quantized(
+    rt: &impl Print,
+    shelf: Shelf,
+    table: &[u8],
+    place: usize,
+    coefficients: &[f32],
+    out: &mut [u8],
+) {
     match quantizer::quantize(table, shelf.books, shelf.book, place, coefficients, out) {
-        Quantized::Written => output::said(0),
-        Quantized::Refused(refusal) => output::refused(refusal),
+        Quantized::Written => output::said(rt, 0),
+        Quantized::Refused(refusal) => output::refused(rt, refusal),
     }
-    output::colon();
-    bytes(out);
+    output::colon(rt);
+    bytes(rt, out);
 }
 
-fn sent(shelf: Shelf, table: &[u8], run: &[f32], out: &mut [u8]) {
+fn sent(rt: &impl Print, shelf: Shelf, table: &[u8], run: &[f32], out: &mut [u8]) {
     match sending::send(table, shelf.books, shelf.book, run, out) {
-        Sending::Written => output::said(0),
-        Sending::Refused(refusal) => output::refused(refusal),
+        Sending::Written => output::said(rt, 0),
+        Sending::Refused(refusal) => output::refused(rt, refusal),
     }
-    output::colon();
-    bytes(out);
+    output::colon(rt);
+    bytes(rt, out);
 }
 
-pub fn bytes(out: &[u8]) {
+pub fn bytes(rt: &impl Print, out: &[u8]) {
     let mut at = 0;
     while at < out.len() {
-        output::next(out[at] as u64);
+        output::next(rt, out[at] as u64);
         at += 1;
     }
 }

@@ -6,29 +6,32 @@ use script::input::number;
 use script::output;
 
 // index V L K, and the coordinates of the vector: its index by selector V.
-pub fn index(numbers: &[u64]) {
+pub fn index(rt: &impl Print, numbers: &[u64]) {
     let mut x = [0; 32];
     if 3 <= numbers.len() {
         let n = numbers.len() - 3;
         if n <= 32 {
-            index_of(numbers, &mut x[..n]);
+            index_of(rt, numbers, &mut x[..n]);
         }
     }
 }
 
-fn index_of(numbers: &[u64], x: &mut [i32]) {
+fn index_of(rt: &impl Print, numbers: &[u64], x: &mut [i32]) {
     let mut i = 0;
     while i < x.len() {
         x[i] = coordinate(number(numbers, i + 3));
         i += 1;
     }
-    indexed(points::index(selector(numbers), length(numbers), radius(numbers), x));
+    indexed(
+        rt,
+        points::index(selector(numbers), length(numbers), radius(numbers), x),
+    );
 }
 
-fn indexed(answer: Indexed) {
+fn indexed(rt: &impl Print, answer: Indexed) {
     match answer {
-        Indexed::At(n) => output::answered(n),
-        Indexed::Refused(refusal) => output::refused(refusal),
+        Indexed::At(n) => output::answered(rt, n),
+        Indexed::Refused(refusal) => output::refused(rt, refusal),
     }
 }
 
@@ -56,32 +59,32 @@ fn coordinate(n: u64) -> i32 {
 }
 
 // point V L K N B: what the call says of index N by selector V with a buffer of B coordinates, and what these are then.
-pub fn point(numbers: &[u64]) {
+pub fn point(rt: &impl Print, numbers: &[u64]) {
     let mut out = [9; 32];
     let size = number(numbers, 4) as usize;
     if size <= 32 {
-        point_into(numbers, &mut out[..size]);
+        point_into(rt, numbers, &mut out[..size]);
     }
 }
 
-fn point_into(numbers: &[u64], out: &mut [i32]) {
+fn point_into(rt: &impl Print, numbers: &[u64], out: &mut [i32]) {
     let n = number(numbers, 3);
     match points::point(selector(numbers), length(numbers), radius(numbers), n, out) {
-        Pointed::Written => output::said(0),
-        Pointed::Refused(refusal) => output::refused(refusal),
+        Pointed::Written => output::said(rt, 0),
+        Pointed::Refused(refusal) => output::refused(rt, refusal),
     }
-    output::colon();
-    coordinates(out);
+    output::colon(rt);
+    coordinates(rt, out);
 }
 
-pub fn coordinates(x: &[i32]) {
+pub fn coordinates(rt: &impl Print, x: &[i32]) {
     let mut at = 0;
     while at < x.len() {
-        signed(x[at]);
+        signed(rt, x[at]);
         at += 1;
     }
 }
 
-fn signed(c: i32) {
-    output::signed(c < 0, coordinates::inner::magnitude(c));
+fn signed(rt: &impl Print, c: i32) {
+    output::signed(rt, c < 0, coordinates::inner::magnitude(c));
 }

@@ -6,12 +6,12 @@ use crate::books::Shelf;
 use crate::{books, checks, coefficients, indices, pages, shells};
 use script::{input, output};
 
-pub fn run(text: &[u8], room: &mut [u8]) {
+pub fn run(rt: &impl Print, text: &[u8], room: &mut [u8]) {
     let mut shelf = books::one();
     let mut from = 0;
     while from < text.len() {
         let to = line_end(text, from);
-        shelf = line(shelf, &text[from..to], room);
+        shelf = line(rt, shelf, &text[from..to], room);
         from = to + 1;
     }
 }
@@ -32,17 +32,17 @@ fn line_end(text: &[u8], from: usize) -> usize
 }
 
 // Writes and runs a line; the books and the layout that are meant after it.
-fn line(shelf: Shelf, line: &[u8], room: &mut [u8]) -> Shelf {
-    output::words(line);
+fn line(rt: &impl Print, shelf: Shelf, line: &[u8], room: &mut [u8]) -> Shelf {
+    output::words(rt, line);
     let mut numbers = [0; 128];
     let n = input::read_numbers(line, &mut numbers);
-    let next = case(shelf, line, &numbers[..n], room);
-    output::words(b"\n");
+    let next = case(rt, shelf, line, &numbers[..n], room);
+    output::words(rt, b"\n");
     next
 }
 
 // The first letter of a line tells the case, or that it is one of books or of a layout; any other line is a remark.
-fn case(shelf: Shelf, line: &[u8], numbers: &[u64], room: &mut [u8]) -> Shelf {
+fn case(rt: &impl Print, shelf: Shelf, line: &[u8], numbers: &[u64], room: &mut [u8]) -> Shelf {
     let letter = input::first(line);
     if letter == b'B' {
         return books::told(shelf, numbers);
@@ -51,16 +51,16 @@ fn case(shelf: Shelf, line: &[u8], numbers: &[u64], room: &mut [u8]) -> Shelf {
         return books::laid(shelf, numbers);
     }
     match letter {
-        b'c' => shells::count(numbers),
-        b'w' => shells::width(numbers),
-        b's' => shells::of_length(numbers),
-        b'i' => indices::index(numbers),
-        b'p' => indices::point(numbers),
-        b't' => checks::check(numbers, room),
-        b'r' => checks::place(numbers, room),
-        b'n' => coefficients::nearest(numbers),
-        b'q' | b'S' => coefficients::run(letter, shelf, numbers, room),
-        b'T' | b'C' | b'R' | b'V' | b'A' | b'M' => pages::run(letter, shelf, numbers, room),
+        b'c' => shells::count(rt, numbers),
+        b'w' => shells::width(rt, numbers),
+        b's' => shells::of_length(rt, numbers),
+        b'i' => indices::index(rt, numbers),
+        b'p' => indices::point(rt, numbers),
+        b't' => checks::check(rt, numbers, room),
+        b'r' => checks::place(rt, numbers, room),
+        b'n' => coefficients::nearest(rt, numbers),
+        b'q' | b'S' => coefficients::run(rt, letter, shelf, numbers, room),
+        b'T' | b'C' | b'R' | b'V' | b'A' | b'M' => pages::run(rt, letter, shelf, numbers, room),
         _ => (),
     }
     shelf

@@ -13,11 +13,11 @@ mod lines;
 mod pages;
 mod shells;
 
-use libc::STDIN_FILENO;
+use script::input::read_full;
 
-fn main() {
+fn main(rt: HostRuntime) {
     let mut text = [0u8; 131072];
-    let n = io::read_full(STDIN_FILENO, &mut text);
-    let mut room = io::buffer();
-    lines::run(&text[..n], &mut room);
+    let n = read_full(&mut rt.stdin(), &mut text);
+    let mut room = [0u8; 4096];
+    lines::run(&rt, &text[..n], &mut room);
 }

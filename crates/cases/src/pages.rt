@@ -16,21 +16,29 @@ use script::input::number;
 use script::output;
 
 // The letter tells the call.
-pub fn run(call: u8, shelf: Shelf, numbers: &[u64], room: &mut [u8]) {
+pub fn run(rt: &impl Print, call: u8, shelf: Shelf, numbers: &[u64], room: &mut [u8]) {
     let mut page = [0u8; 64];
     let size = number(numbers, 3) as usize;
     if size <= 64 {
-        with_page(call, shelf, numbers, &mut page[..size], room);
+        with_page(rt, call, shelf, numbers, &mut page[..size], room);
     }
 }
 
-fn with_page(call: u8, shelf: Shelf, numbers: &[u64], page: &mut [u8], room: &mut [u8]) {
+fn with_page(
+    rt: &impl Print,
+    call: u8,
+    shelf: Shelf,
+    numbers: &[u64],
+    page: &mut [u8],
+    room: &mut [u8],
+) {
     copy(numbers, 4, page);
     let first = 4 + page.len();
     let mut arrived = [0u8; 64];
     let size = number(numbers, first) as usize;
     if size <= 64 {
         with_arrived(
+            rt,
             call,
             shelf,
             numbers,
@@ -43,6 +51,7 @@ fn with_page(call: u8, shelf: Shelf, numbers: &[u64], page: &mut [u8], room: &mu
 }
 
 fn with_arrived(
+    rt: &impl Print,
     call: u8,
     shelf: Shelf,
     numbers: &[u64],
@@ -54,6 +63,7 @@ fn with_arrived(
     if first < 128 {
         copy(numbers, first, arrived);
         with_table(
+            rt,
             call,
             shelf,
             numbers,
@@ -66,6 +76,7 @@ fn with_arrived(
 }
 
 fn with_table(
+    rt: &impl Print,
     call: u8,
     shelf: Shelf,
     numbers: &[u64],
@@ -78,6 +89,7 @@ fn with_table(
     if first < 255 {
         if size <= room.len() {
             made(
+                rt,
                 call,
                 shelf,
                 numbers,
@@ -91,6 +103,7 @@ fn with_table(
 }
 
 fn made(
+    rt: &impl Print,
     call: u8,
     shelf: Shelf,
     numbers: &[u64],
@@ -104,12 +117,12 @@ fn made(
     let a = number(numbers, 1) as usize;
     let b = number(numbers, 2) as usize;
     match call {
-        b'T' => take(shelf, table, page, arrived),
-        b'C' => collect(shelf, table, page, arrived),
-        b'R' => read(mode, shelf, table, page, a, b),
-        b'V' => value(mode, shelf, table, page, a, b),
-        b'M' => move_page(shelf, table, page, arrived),
-        _ => tally(mode, shelf, table, page),
+        b'T' => take(rt, shelf, table, page, arrived),
+        b'C' => collect(rt, shelf, table, page, arrived),
+        b'R' => read(rt, mode, shelf, table, page, a, b),
+        b'V' => value(rt, mode, shelf, table, page, a, b),
+        b'M' => move_page(rt, shelf, table, page, arrived),
+        _ => tally(rt, mode, shelf, table, page),
     }
 }
 
@@ -125,33 +138,36 @@ fn copy(numbers: &[u64], first: usize, out: &mut [u8])
 }
 
 // Take 0 0 0: what the call says, and the page then.
-fn take(shelf: Shelf, table: &[u8], page: &mut [u8], arrived: &[u8]) {
+fn take(rt: &impl Print, shelf: Shelf, table: &[u8], page: &mut [u8], arrived: &[u8]) {
     let layout = shelf.layout;
     match page::take(table, shelf.books, layout, page, arrived) {
-        Arrival::Taken => output::said(0),
-        Arrival::Refused(refusal) => output::refused(refusal),
+        Arrival::Taken => output::said(rt, 0),
+        Arrival::Refused(refusal) => output::refused(rt, refusal),
     }
-    output::colon();
-    bytes(page);
+    output::colon(rt);
+    bytes(rt, page);
 }
 
 // Collect 0 0 0: the number of refused takes, and the page then.
-fn collect(shelf: Shelf, table: &[u8], page: &mut [u8], arrived: &[u8]) {
+fn collect(rt: &impl Print, shelf: Shelf, table: &[u8], page: &mut [u8], arrived: &[u8]) {
     let layout = shelf.layout;
-    output::said(page::collect(table, shelf.books, layout, page, arrived) as u64);
-    output::colon();
-    bytes(page);
+    output::said(
+        rt,
+        page::collect(table, shelf.books, layout, page, arrived) as u64,
+    );
+    output::colon(rt);
+    bytes(rt, page);
 }
 
 // Move 0 0 0: the page from its layout into the other one; what the call says, and the other page then. What arrives is
 // what the other page holds before.
-fn move_page(shelf: Shelf, table: &[u8], page: &[u8], other: &mut [u8]) {
+fn move_page(rt: &impl Print, shelf: Shelf, table: &[u8], page: &[u8], other: &mut [u8]) {
     match moved(shelf, table, page, other) {
-        Conversion::Converted => output::said(0),
-        Conversion::Refused(refusal) => output::refused(refusal),
+        Conversion::Converted => output::said(rt, 0),
+        Conversion::Refused(refusal) => output::refused(rt, refusal),
     }
-    output::colon();
-    bytes(other);
+    output::colon(rt);
+    bytes(rt, other);
 }
 
 fn moved(shelf: Shelf, table: &[u8], page: &[u8], other: &mut [u8]) -> Conversion {
@@ -163,14 +179,30 @@ fn moved(shelf: Shelf, table: &[u8], page: &[u8], other: &mut [u8]) -> Conversio
 }
 
 // Read M P B: what the call says in mode M of place P with a buffer of B coordinates, and what these are then.
-fn read(mode: usize, shelf: Shelf, table: &[u8], page: &[u8], place: usize, size: usize) {
+fn read(
+    rt: &impl Print,
+    mode: usize,
+    shelf: Shelf,
+    table: &[u8],
+    page: &[u8],
+    place: usize,
+    size: usize,
+) {
     let mut out = [9; 20];
     if size <= 20 {
-        read_into(mode, shelf, table, page, place, &mut out[..size]);
+        read_into(rt, mode, shelf, table, page, place, &mut out[..size]);
     }
 }
 
-fn read_into(mode: usize, shelf: Shelf, table: &[u8], page: &[u8], place: usize, out: &mut [i32]) {
+fn read_into(
+    rt: &impl Print,
+    mode: usize,
+    shelf: Shelf,
+    table: &[u8],
+    page: &[u8],
+    place: usize,
+    out: &mut [i32],
+) {
     let layout = shelf.layout;
     match page::read(
         Mode(mode),
@@ -182,44 +214,52 @@ fn read_into(mode: usize, shelf: Shelf, table: &[u8], page: &[u8], place: usize,
         place,
         out,
     ) {
-        Reading::Answered(answer) => shown(answer),
-        Reading::Refused(refusal) => output::refused(refusal),
+        Reading::Answered(answer) => shown(rt, answer),
+        Reading::Refused(refusal) => output::refused(rt, refusal),
     }
-    output::colon();
-    coordinates(out);
+    output::colon(rt);
+    coordinates(rt, out);
 }
 
-fn shown(answer: Answer) {
+fn shown(rt: &impl Print, answer: Answer) {
     match answer {
-        Answer::Sound => output::answer(0),
-        Answer::Mended { distance } => mended(distance),
-        Answer::Missing => output::answer(2),
-        Answer::Contested => output::answer(3),
-        Answer::Unreadable(reason) => unreadable(reason),
+        Answer::Sound => output::answer(rt, 0),
+        Answer::Mended { distance } => mended(rt, distance),
+        Answer::Missing => output::answer(rt, 2),
+        Answer::Contested => output::answer(rt, 3),
+        Answer::Unreadable(reason) => unreadable(rt, reason),
     }
 }
 
-fn mended(distance: u64) {
-    output::answer(1);
-    output::next(distance);
+fn mended(rt: &impl Print, distance: u64) {
+    output::answer(rt, 1);
+    output::next(rt, distance);
 }
 
 // The number of the reason, and the distance of reason 6.
-fn unreadable(reason: Reason) {
-    output::answer(4);
+fn unreadable(rt: &impl Print, reason: Reason) {
+    output::answer(rt, 4);
     match reason {
-        Reason::NoSuchRadius => output::next(10),
-        Reason::TooWide => output::next(14),
+        Reason::NoSuchRadius => output::next(rt, 10),
+        Reason::TooWide => output::next(rt, 14),
         Reason::PastEnd { distance } => {
-            output::next(6);
-            output::next(distance);
+            output::next(rt, 6);
+            output::next(rt, distance);
         }
-        Reason::EmptyShape => output::next(15),
+        Reason::EmptyShape => output::next(rt, 15),
     }
 }
 
 // Value M P I: what the call says in mode M of coordinate I of place P.
-fn value(mode: usize, shelf: Shelf, table: &[u8], page: &[u8], place: usize, coordinate: usize) {
+fn value(
+    rt: &impl Print,
+    mode: usize,
+    shelf: Shelf,
+    table: &[u8],
+    page: &[u8],
+    place: usize,
+    coordinate: usize,
+) {
     let layout = shelf.layout;
     match page::coefficient(
         Mode(mode),
@@ -231,47 +271,47 @@ fn value(mode: usize, shelf: Shelf, table: &[u8], page: &[u8], place: usize, coo
         place,
         coordinate,
     ) {
-        Valued::Answered(value) => carried(value),
-        Valued::Refused(refusal) => output::refused(refusal),
+        Valued::Answered(value) => carried(rt, value),
+        Valued::Refused(refusal) => output::refused(rt, refusal),
     }
 }
 
-fn carried(value: Value) {
+fn carried(rt: &impl Print, value: Value) {
     match value {
         Value::Sound(v) => {
-            output::answer(0);
-            scaled(v);
+            output::answer(rt, 0);
+            scaled(rt, v);
         }
         Value::Mended { value, distance } => {
-            mended(distance);
-            scaled(value);
+            mended(rt, distance);
+            scaled(rt, value);
         }
-        Value::Missing => output::answer(2),
-        Value::Contested => output::answer(3),
-        Value::Unreadable(reason) => unreadable(reason),
+        Value::Missing => output::answer(rt, 2),
+        Value::Contested => output::answer(rt, 3),
+        Value::Unreadable(reason) => unreadable(rt, reason),
     }
 }
 
 // A value as a whole number over 256; a zero that is not positive has its sign too.
-fn scaled(v: f32) {
+fn scaled(rt: &impl Print, v: f32) {
     if is_unusable(v) {
-        output::none();
+        output::none(rt);
     } else {
-        output::signed(is_negative(1.0 / v), nearest_whole(v) as u64);
+        output::signed(rt, is_negative(1.0 / v), nearest_whole(v) as u64);
     }
 }
 
 // Answers M 0 0: the five counts of the tally in mode M.
-fn tally(mode: usize, shelf: Shelf, table: &[u8], page: &[u8]) {
+fn tally(rt: &impl Print, mode: usize, shelf: Shelf, table: &[u8], page: &[u8]) {
     let layout = shelf.layout;
     match page::tally(Mode(mode), table, shelf.books, shelf.book, layout, page) {
         Tallied::Counted(counts) => {
-            output::answered(counts.sound as u64);
-            output::next(counts.mended as u64);
-            output::next(counts.missing as u64);
-            output::next(counts.contested as u64);
-            output::next(counts.unreadable as u64);
+            output::answered(rt, counts.sound as u64);
+            output::next(rt, counts.mended as u64);
+            output::next(rt, counts.missing as u64);
+            output::next(rt, counts.contested as u64);
+            output::next(rt, counts.unreadable as u64);
         }
-        Tallied::Refused(refusal) => output::refused(refusal),
+        Tallied::Refused(refusal) => output::refused(rt, refusal),
     }
 }

@@ -5,18 +5,18 @@ use script::output;
 use shell::Counted;
 
 // count L K: N.
-pub fn count(numbers: &[u64]) {
+pub fn count(rt: &impl Print, numbers: &[u64]) {
     let length = number(numbers, 0) as usize;
     let radius = number(numbers, 1) as usize;
     match shell::count(Length(length), Radius(radius)) {
-        Counted::Points(n) => output::answered(n),
-        Counted::Refused(refusal) => output::refused(refusal),
+        Counted::Points(n) => output::answered(rt, n),
+        Counted::Refused(refusal) => output::refused(rt, refusal),
     }
 }
 
 // width N: the width of this total.
-pub fn width(numbers: &[u64]) {
-    output::said(shell::width(number(numbers, 0)) as u64);
+pub fn width(rt: &impl Print, numbers: &[u64]) {
+    output::said(rt, shell::width(number(numbers, 0)) as u64);
 }
 
 #[derive(Clone, Copy)]
@@ -26,10 +26,10 @@ struct Shells {
 }
 
 // shells L: how many of the radii 0 to 32 are usable at a length, and how many points those shells have in all.
-pub fn of_length(numbers: &[u64]) {
+pub fn of_length(rt: &impl Print, numbers: &[u64]) {
     let shells = shells_of(number(numbers, 0) as usize);
-    output::said(shells.usable);
-    output::next(shells.points);
+    output::said(rt, shells.usable);
+    output::next(rt, shells.points);
 }
 
 fn shells_of(length: usize) -> Shells {

@@ -15,24 +15,25 @@ use inner::input::take_records;
 use inner::output::print_page;
 use layout::inner::{BOOK_ROOM, page_length};
 use pairing::{Checked, check};
+use std::rt::Files;
 
 // Lists a page of one book, which has so many places.
-fn list(table: &[u8], places: usize)
+fn list(rt: &(impl Files + Print + Eprint), table: &[u8], places: usize)
     requires { places ≤ 4096 }
 {
     let mut room = [0u8; BOOK_ROOM];
     let size = page_length(places);
     let page = &mut room[..size];
-    let refused = take_records(table, page);
-    print_page(table, page, places, refused);
+    let refused = take_records(rt, table, page);
+    print_page(rt, table, page, places, refused);
 }
 
-fn main() {
+fn main(rt: HostRuntime) {
     let mut room = [0u8; 513];
-    let size = read_table(&mut room);
+    let size = read_table(&rt, &mut room);
     let table = &room[..size];
     match check(table) {
-        Checked::Places(places) => list(table, places),
-        Checked::Refused(refusal) => print_refused(refusal),
+        Checked::Places(places) => list(&rt, table, places),
+        Checked::Refused(refusal) => print_refused(&rt, refusal),
     }
 }

@@ -14,28 +14,29 @@ use inner::records::write_records;
 use inner::run::send_bytes;
 use pairing::{Checked, check};
 use sending::Sending;
+use std::rt::Files;
 
 // Sends a page of so many places. A file of coefficients is read as far as it tells whether its run is too long.
-fn send_page(table: &[u8], places: usize)
+fn send_page(rt: &(impl Files + Print + Eprint), table: &[u8], places: usize)
     requires { places ≤ 4096 }
 {
     let mut room = [0u8; 262148];
-    let size = read_file(b"coefficients.bin", &mut room);
+    let size = read_file(rt, "coefficients.bin", &mut room);
     let mut out = [0u8; 32768];
     let end = 8 * places;
     let records = &mut out[..end];
     match send_bytes(table, &room[..size], records) {
-        Sending::Written => write_records(records),
-        Sending::Refused(refusal) => print_refused(refusal),
+        Sending::Written => write_records(rt, records),
+        Sending::Refused(refusal) => print_refused(rt, refusal),
     }
 }
 
-fn main() {
+fn main(rt: HostRuntime) {
     let mut room = [0u8; 513];
-    let size = read_table(&mut room);
+    let size = read_table(&rt, &mut room);
     let table = &room[..size];
     match check(table) {
-        Checked::Places(places) => send_page(table, places),
-        Checked::Refused(refusal) => print_refused(refusal),
+        Checked::Places(places) => send_page(&rt, table, places),
+        Checked::Refused(refusal) => print_refused(&rt, refusal),
     }
 }

@@ -1,23 +1,25 @@
 // What is printed. Where it cannot be written, standard error tells so.
+use super::telling::tell;
 use answers::Refusal;
-use libc::STDOUT_FILENO;
 use report::{Lined, refused_line};
 
 // Writes all of a text, or tells that it cannot.
-pub fn put(text: &[u8]) -> bool {
-    let written = io::write_all(STDOUT_FILENO, text);
-    if !written {
-        os::fail(b"standard output");
+pub fn put(rt: &(impl Print + Eprint), text: &[u8]) -> bool {
+    match rt.write_all(text) {
+        Ok(()) => true,
+        Err(error) => {
+            tell(rt, "standard output", error);
+            false
+        }
     }
-    written
 }
 
 // Prints a refusal.
-pub fn print_refused(refusal: Refusal) {
+pub fn print_refused(rt: &(impl Print + Eprint), refusal: Refusal) {
     let mut out = [0u8; 256];
     match refused_line(refusal, &mut out) {
         Lined::Written(size) => {
-            put(&out[..size]);
+            put(rt, &out[..size]);
         }
         Lined::Refused(_) => {}
     }

@@ -1,41 +1,60 @@
 // A file is read until the room for it is full or nothing more comes. A missing file is empty, and so is one that
 // cannot be opened, which standard error tells.
-ghost use Rattle.std.specs.Prelude.{◌≡◌, ◌+◌, ◌≤◌, length};
-ghost use Rattle.io.specs.Counts.{IsPrefixLen};
+ghost use Rattle.std.specs.Prelude.{◌≡◌, ◌+◌, ◌≤◌, length, take, drop};
+ghost use Rattle.std.specs.Io.KnownBytes.{Consumes};
 ghost use Rattle.tables.specs.Table.{table_room};
 
+use super::telling::tell;
+use std::fs;
+use std::io::{ErrorKind, Read};
+use std::rt::Files;
+
 // Opens a file. One that is missing is no failure; any other reason is told.
-pub fn open(path: &[u8]) -> i32 {
-    let fd = os::open_read(path);
-    if fd < 0 {
-        if os::errno() != libc::ENOENT {
-            os::fail(path);
+pub fn open<R: Files + Eprint>(rt: &R, path: &str) -> Option<R::File> {
+    match fs::open(rt, path) {
+        Ok(file) => Some(file),
+        Err(error) => {
+            if error.kind() != ErrorKind::NotFound {
+                tell(rt, path, error);
+            }
+            None
         }
     }
-    fd
 }
 
 // Reads once into the block, from `filled` on, and answers how many bytes came: none at the end of the file, nor
 // where the read fails, which is told.
-fn read_more(fd: i32, path: &[u8], block: &mut [u8], filled: usize) -> usize
+fn read_more<F: Read>(
+    rt: &impl Eprint,
+    file: &mut F,
+    path: &str,
+    block: &mut [u8],
+    filled: usize,
+) -> usize
     requires { filled ≤ length block.old }
-    ensures { filled + result ≤ length block.old }
+    ensures fits { filled + result ≤ length block.old }
+    ensures before { take filled block.new ≡ take filled block.old }
+    ensures came { Consumes (F.remaining file.old) (F.remaining file.new) (take result (drop filled block.new)) }
 {
     let rest = &mut block[filled..];
-    let got = libc::read(fd, rest);
-    if got < 0 {
-        os::fail(path);
+    match file.read(rest) {
+        Ok(more) => more,
+        Err(error) => {
+            tell(rt, path, error);
+            0
+        }
     }
-    io::count(got, rest)
 }
 
 // Reads until the block is full or nothing more comes, however short each read is.
-pub fn fill(fd: i32, path: &[u8], block: &mut [u8]) -> usize
-    ensures { IsPrefixLen result block.new }
+pub fn fill<F: Read>(rt: &impl Eprint, file: &mut F, path: &str, block: &mut [u8]) -> usize
+    ensures fits { result ≤ length block.new }
+    ensures part { result ≡ length (take result block.new) }
+    ensures came { Consumes (F.remaining file.old) (F.remaining file.new) (take result block.new) }
 {
     let mut filled = 0;
     while filled < block.len() {
-        let more = read_more(fd, path, block, filled);
+        let more = read_more(rt, file, path, block, filled);
         if more == 0 {
             break;
         }
@@ -45,22 +64,21 @@ pub fn fill(fd: i32, path: &[u8], block: &mut [u8]) -> usize
 }
 
 // The bytes of a file, at most as many as there is room for.
-pub fn read_file(path: &[u8], room: &mut [u8]) -> usize
-    ensures { IsPrefixLen result room.new }
+pub fn read_file(rt: &(impl Files + Eprint), path: &str, room: &mut [u8]) -> usize
+    ensures fits { result ≤ length room.new }
+    ensures part { result ≡ length (take result room.new) }
 {
-    let fd = open(path);
-    if fd < 0 {
-        return 0;
+    match open(rt, path) {
+        Some(mut file) => fill(rt, &mut file, path, room),
+        None => 0,
     }
-    let n = fill(fd, path, room);
-    libc::close(fd);
-    n
 }
 
 // The bytes of the table, at most as many as there is room for, which is enough to tell that a table is too long.
-pub fn read_table(room: &mut [u8]) -> usize
+pub fn read_table(rt: &(impl Files + Eprint), room: &mut [u8]) -> usize
     requires { length room.old ≡ table_room }
-    ensures { IsPrefixLen result room.new }
+    ensures fits { result ≤ length room.new }
+    ensures part { result ≡ length (take result room.new) }
 {
-    read_file(b"pairing.bin", room)
+    read_file(rt, "pairing.bin", room)
 }

@@ -4,28 +4,37 @@ ghost use Rattle.listing.specs.Took.{Took};
 use files::inner::reading::{fill, open};
 use layout::Layout;
 use page::collect;
+use std::io::Read;
+use std::rt::Files;
 use tables::{Books, ONE_BOOK};
 
 // A loop has to have an end, and nothing says that a file has one. 2^48 blocks of 2^16 bytes are 2^64 bytes, more
 // than any file has.
 const MOST_TURNS: u64 = 281474976710656;
 
+const RECORDS: &str = "records.bin";
+
 // Takes the records into the page, and answers how many takes were refused.
-pub fn take_records(table: &[u8], page: &mut [u8]) -> u64
+pub fn take_records(rt: &(impl Files + Eprint), table: &[u8], page: &mut [u8]) -> u64
     ensures { Took table.now page.old page.new result }
 {
-    let path = b"records.bin";
-    let fd = open(path);
-    if fd < 0 {
-        return 0;
+    match open(rt, RECORDS) {
+        Some(mut file) => take_file(rt, &mut file, table, page),
+        None => 0,
     }
-    let mut block = io::large_buffer();
+}
+
+// Takes what the file holds from here on.
+fn take_file<F: Read>(rt: &impl Eprint, file: &mut F, table: &[u8], page: &mut [u8]) -> u64
+    ensures { Took table.now page.old page.new result }
+{
+    let mut block = [0u8; 65536];
     let mut refused: u64 = 0;
     let mut turns: u64 = 0;
-    let mut n = fill(fd, path, &mut block);
+    let mut n = fill(rt, file, RECORDS, &mut block);
     while n == 65536 && turns < MOST_TURNS {
         refused += collect(table, Books(ONE_BOOK), Layout::CellByCell, page, &block) as u64;
-        n = fill(fd, path, &mut block);
+        n = fill(rt, file, RECORDS, &mut block);
         turns += 1;
     }
     refused += collect(
@@ -35,6 +44,5 @@ pub fn take_records(table: &[u8], page: &mut [u8]) -> u64
         page,
         &block[..n],
     ) as u64;
-    libc::close(fd);
     refused
 }

@@ -7,8 +7,14 @@ use rules::{MENDING, Mode};
 use tables::{Book, Books, ONE_BOOK, ONLY_BOOK};
 
 // Prints the page: the lines of its places, and the last line.
-pub fn print_page(table: &[u8], page: &[u8], places: usize, refused: u64) {
-    let mut out = io::large_buffer();
+pub fn print_page(
+    rt: &(impl Print + Eprint),
+    table: &[u8],
+    page: &[u8],
+    places: usize,
+    refused: u64,
+) {
+    let mut out = [0u8; 65536];
     let mut from = 0;
     while from < places {
         match lines(
@@ -22,22 +28,22 @@ pub fn print_page(table: &[u8], page: &[u8], places: usize, refused: u64) {
             &mut out,
         ) {
             Listed::Written { to, size } => {
-                if !put(&out[..size]) {
+                if !put(rt, &out[..size]) {
                     return;
                 }
                 from = to;
             }
             Listed::Refused(refusal) => {
-                print_refused(refusal);
+                print_refused(rt, refusal);
                 return;
             }
         }
     }
-    print_tally(table, page, refused);
+    print_tally(rt, table, page, refused);
 }
 
 // Prints the last line.
-fn print_tally(table: &[u8], page: &[u8], refused: u64) {
+fn print_tally(rt: &(impl Print + Eprint), table: &[u8], page: &[u8], refused: u64) {
     match tally(
         Mode(MENDING),
         table,
@@ -50,11 +56,11 @@ fn print_tally(table: &[u8], page: &[u8], refused: u64) {
             let mut out = [0u8; 256];
             match last_line(counts, refused, &mut out) {
                 Lined::Written(size) => {
-                    put(&out[..size]);
+                    put(rt, &out[..size]);
                 }
-                Lined::Refused(refusal) => print_refused(refusal),
+                Lined::Refused(refusal) => print_refused(rt, refusal),
             }
         }
-        Tallied::Refused(refusal) => print_refused(refusal),
+        Tallied::Refused(refusal) => print_refused(rt, refusal),
     }
 }

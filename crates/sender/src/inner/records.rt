@@ -1,16 +1,19 @@
 // The file of the records.
+use files::inner::telling::tell;
+use std::fs;
+use std::io::Write;
+use std::rt::Files;
 
 // Writes all records of a page. Where they cannot be written whole, standard error tells so, and the file is removed.
-pub fn write_records(records: &[u8]) {
-    let path = b"records.bin";
-    let fd = os::open_overwrite(path);
-    if fd < 0 {
-        os::fail(path);
-        return;
+pub fn write_records(rt: &(impl Files + Eprint), records: &[u8]) {
+    let path = "records.bin";
+    match fs::create(rt, path) {
+        Ok(mut file) => {
+            if let Err(error) = file.write_all(records) {
+                tell(rt, path, error);
+                let _ = fs::remove_file(rt, path);
+            }
+        }
+        Err(error) => tell(rt, path, error),
     }
-    if !io::write_all(fd, records) {
-        os::fail(path);
-        os::unlink(path);
-    }
-    libc::close(fd);
 }
