@@ -1,0 +1,9 @@
+use Rattle.std.proofs.Common.{◌≡◌, ◌-◌, length}
+use Rattle.cases.proofs.coefficients.fill.Given as goal
+
+-- every coefficient is set once
+abbrev pub invariant-loop-i : goal.invariant-loop-i
+invariant-loop-i l = length l.coefficients ≡ length l.initial.coefficients
+
+abbrev pub decreases-loop-i : goal.decreases-loop-i
+decreases-loop-i l = length l.coefficients - l.i

@@ -1,0 +1,12 @@
+use Rattle.std.proofs.Common.{arith}
+use Rattle.files.proofs.Reading.{came_more}
+use Rattle.files.proofs.inner.reading.fill.Goals as goal
+
+pub loop-filled-preserved : goal.loop-filled-preserved
+loop-filled-preserved g c =
+    let before = c.loop-filled.invariant in
+    let read = c.read_more-more in (
+      omega (arith, read.ensures.fits, before.1, read.auto.block),
+      omega (arith, before.1, read.auto.block),
+      came_more _ _ _ c.loop-filled.block read.new.block c.loop-filled.filled read.result read.ensures.before before.2 read.ensures.came,
+    )
