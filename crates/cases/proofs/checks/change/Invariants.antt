@@ -1,3 +1,4 @@
+-- What each turn of the loop keeps in `cases::checks::change`, and what falls with each turn.
 use Rattle.std.proofs.Common.{◌≡◌, ◌-◌, length}
 use Rattle.cases.proofs.checks.change.Given as goal
 

@@ -1,3 +1,4 @@
+-- What each turn of the loop keeps in `cases::checks::fill`, and what falls with each turn.
 use Rattle.std.proofs.Common.{◌≡◌, ◌-◌, length}
 use Rattle.cases.proofs.checks.fill.Given as goal
 

@@ -1,3 +1,4 @@
+-- What falls with each turn in `cases::checks::radii`.
 use Rattle.std.proofs.Common.{◌-◌}
 use Rattle.cases.proofs.checks.radii.Given as goal
 

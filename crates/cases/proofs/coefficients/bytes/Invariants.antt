@@ -1,3 +1,4 @@
+-- What falls with each turn in `cases::coefficients::bytes`.
 use Rattle.std.proofs.Common.{◌-◌, length}
 use Rattle.cases.proofs.coefficients.bytes.Given as goal
 

@@ -1,3 +1,4 @@
+-- What falls with each turn in `cases::indices::coordinates`.
 use Rattle.std.proofs.Common.{◌-◌, length}
 use Rattle.cases.proofs.indices.coordinates.Given as goal
 

@@ -1,3 +1,4 @@
+-- What each turn of the loop keeps in `cases::indices::index_of`, and what falls with each turn.
 use Rattle.std.proofs.Common.{◌≡◌, ◌-◌, length}
 use Rattle.cases.proofs.indices.index_of.Given as goal
 

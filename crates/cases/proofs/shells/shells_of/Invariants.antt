@@ -1,3 +1,4 @@
+-- What falls with each turn in `cases::shells::shells_of`.
 use Rattle.std.proofs.Common.{◌-◌}
 use Rattle.cases.proofs.shells.shells_of.Given as goal
 

@@ -1,3 +1,4 @@
+-- `coefficients::inner::coefficients::check_coefficients` refuses the first unusable coefficient.
 use Rattle.std.proofs.Common.{[], ◌∷◌, length, sym}
 use native.Mathlib.Omega.{arith}
 use Rattle.answers.proofs.Each.{first_refused, none_refused}

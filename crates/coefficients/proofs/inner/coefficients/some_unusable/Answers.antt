@@ -1,3 +1,4 @@
+-- `coefficients::inner::coefficients::some_unusable` looks at each coefficient.
 use Rattle.std.proofs.Common.{refl, ◌∙◌}
 use native.Mathlib.Omega.{arith}
 use Rattle.coefficients.specs.Coefficients.{some_unusable}

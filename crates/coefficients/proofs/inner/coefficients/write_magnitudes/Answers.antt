@@ -1,3 +1,4 @@
+-- `coefficients::inner::coefficients::write_magnitudes` fills the buffer with the magnitudes.
 use Rattle.std.proofs.Common.{map, sym, ◌∙◌}
 use native.Mathlib.Omega.{arith}
 use lib.Ieee.{nan}

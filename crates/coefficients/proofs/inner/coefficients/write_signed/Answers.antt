@@ -1,3 +1,4 @@
+-- `coefficients::inner::coefficients::write_signed` fills the buffer with the signed magnitudes.
 use Rattle.std.proofs.Common.{◌≡◌, Bool, get_or, pos, to_z, of_z, w32, sym, ap, ◌∙◌}
 use native.Mathlib.Omega.{arith}
 use lib.Ieee.{nan}

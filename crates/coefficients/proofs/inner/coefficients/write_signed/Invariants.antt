@@ -1,3 +1,4 @@
+-- What each turn of the loop keeps in `coefficients::inner::coefficients::write_signed`, and what falls with each turn.
 use Rattle.std.proofs.Common.{length, ◌-◌, ◌≡◌, ◌≤◌}
 use Rattle.buffers.specs.Written.{written}
 use Rattle.coefficients.specs.Points.{signed_by}

@@ -1,3 +1,5 @@
+-- `coefficients::inner::radius::choose` gives the chosen radius number: at each number the loop has the first best
+-- of those up to it, and by how much that one misses.
 use Rattle.std.proofs.Common.{◌≡◌, ◌-◌, ap, ◌∙◌}
 use native.Mathlib.Omega.{arith}
 use borrow.Author.Tests.{lt-ltb, le-ltb}

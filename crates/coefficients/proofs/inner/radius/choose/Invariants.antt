@@ -1,3 +1,4 @@
+-- What each turn of the loop keeps in `coefficients::inner::radius::choose`, and what falls with each turn.
 use Rattle.std.proofs.Common.{◌-◌, ◌≤◌}
 use Rattle.shares.specs.Best.{smaller}
 use Rattle.shares.proofs.Best.{Scan}

@@ -1,3 +1,4 @@
+-- What each turn of the loop keeps in `files::inner::reading::fill`, and what falls with each turn.
 use Rattle.std.proofs.Common.{◌≡◌, ◌-◌, ◌≤◌, length, take}
 use Rattle.std.specs.Io.KnownBytes.{Consumes}
 use Rattle.files.proofs.inner.reading.fill.Given as goal

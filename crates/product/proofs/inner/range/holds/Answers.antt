@@ -1,3 +1,5 @@
+-- `product::inner::range::holds` tells whether the index is below the total: a range from 1 on is found exactly for
+-- such an index, but at radius 0.
 use Prim.Native.Nat.{ℕ, zero, suc}
 use mathlib.Core.Path.{◌≡◌, sym, ◌∙◌}
 use native.Mathlib.Omega.{arith}

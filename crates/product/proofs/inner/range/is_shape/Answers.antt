@@ -1,3 +1,5 @@
+-- `product::inner::range::is_shape` tells whether the shape field of the position in the range is below the shape
+-- count. At radius 0 it is.
 use native.Mathlib.Omega.{arith}
 use Rattle.counts.specs.declared.Field.TheVariants.{Bits}
 use Rattle.product.proofs.Located.{start_to, s_to, countable, shape_tells, one_named}

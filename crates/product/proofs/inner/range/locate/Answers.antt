@@ -1,3 +1,6 @@
+-- `product::inner::range::locate` is the first range, counted down from m, that holds n: at each turn the start is
+-- that of the range for s and at most n, so that the range holds n where it ends past it, and the search from s
+-- finds what the search from m does.
 use Prim.Native.Nat.{◌+◌}
 use mathlib.Core.Path.{◌≡◌, sym, ap, ap₂, ◌∙◌}
 use native.Mathlib.Omega.{arith}

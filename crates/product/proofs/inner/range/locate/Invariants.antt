@@ -1,3 +1,4 @@
+-- What each turn of the loop keeps in `product::inner::range::locate`, and what falls with each turn.
 use Prim.Native.Nat.{◌≤◌}
 use mathlib.Core.Path.{◌≡◌}
 use Rattle.counts.specs.Counts.{most_nonzero, range_start}

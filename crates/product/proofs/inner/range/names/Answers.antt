@@ -1,3 +1,5 @@
+-- `product::inner::range::names` tells whether the index names a point: each does where the field is exact, and where
+-- it has bits the shape field tells.
 use Prim.Native.Nat.{ℕ}
 use mathlib.Core.Path.{◌≡◌, sym}
 use mathlib.Core.Bool.{true}

@@ -1,3 +1,6 @@
+-- `product::inner::read::components_at` gives the components of the point of an index: the signs are the low bits
+-- of its position in the range, and the pattern and the shape are quotient and remainder of the rest by the shape
+-- field.
 use native.Mathlib.Omega.{arith}
 use Rattle.product.proofs.Located.{start_to, s_to, countable, field_from, components_there, no_components}
 use Rattle.ranges.proofs.Rooms.{shapes_to, room_size}

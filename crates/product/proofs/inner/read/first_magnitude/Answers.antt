@@ -1,3 +1,5 @@
+-- `product::inner::read::first_magnitude` is the first magnitude and the number of the shape that is left: the last
+-- magnitude is all that is left to sum to, and the one before it one more than the number of the shape.
 use mathlib.Core.Path.{sym}
 use native.Mathlib.Nat.{le_refl}
 use native.Mathlib.Omega.{arith}

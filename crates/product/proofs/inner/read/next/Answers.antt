@@ -1,3 +1,4 @@
+-- `product::inner::read::next` gives the first coordinate of the point and the components of the rest.
 use native.Mathlib.Omega.{arith}
 use Rattle.product.proofs.Writing.{s_to, zero_next, nonzero_there, nonzero_next}
 use Rattle.product.proofs.inner.read.next.Goals as goal

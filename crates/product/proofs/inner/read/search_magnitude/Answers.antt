@@ -1,3 +1,6 @@
+-- `product::inner::read::search_magnitude` is the first magnitude and the number of the shape that is left. The
+-- loop passes the shapes that begin with 1, 2 and so on: with k left to sum to after the first magnitude, what is
+-- left of the number is that of a shape which sums to k+1.
 use Prim.Native.Nat.{ℕ, suc, ◌-◌, ◌≤◌, ◌<◌}
 use mathlib.Core.Path.{◌≡◌}
 use native.Mathlib.Omega.{arith}

@@ -1,3 +1,4 @@
+-- What each turn of the loop keeps in `product::inner::read::search_magnitude`, and what falls with each turn.
 use mathlib.Core.Path.{◌≡◌}
 use Rattle.counts.specs.Counts.{S}
 use Rattle.enumeration.proofs.Passing.{Passing}

@@ -1,3 +1,5 @@
+-- `product::inner::read::write` writes the point: at each turn the coordinates before `at` stand there, and the
+-- rest is what is left to write.
 use native.Mathlib.Omega.{arith}
 use lib.ListN.{length}
 use Rattle.coordinates.proofs.Writing.{write_all}

@@ -1,3 +1,4 @@
+-- What each turn of the loop keeps in `product::inner::read::write`, and what falls with each turn.
 use Prim.Native.Nat.{◌-◌, ◌≤◌}
 use mathlib.Core.Path.{◌≡◌}
 use mathlib.Core.List.{◌++◌}
