@@ -1,4 +1,4 @@
--- A selector above 2 is refused, and else what the checks of the shell refuse, by the total of the selected enumeration.
+-- A selector above 2 is refused, and else what the checks of the shell refuse, by the selected total.
 use native.Mathlib.Omega.{arith}
 use borrow.Author.Tests.{lt-ltb, le-ltb}
 use Prim.Native.Nat.{ℕ}
