@@ -1,0 +1,17 @@
+-- `text::inner::lines::write_place_line` writes the line of a place, field by field.
+use mathlib.Core.List.{[], ◌∷◌, map}
+use native.Mathlib.Omega.{arith}
+use Rattle.wording.specs.Text.{decimal, integer, word}
+use Rattle.text.proofs.Writing.{begun, more, one_more_lem, ended}
+use Rattle.text.proofs.inner.lines.write_place_line.Goals as goal
+
+pub returns : goal.returns
+returns c =
+    let place = decimal c.args.place in
+    let answer = word c.args.answer in
+    let third = decimal c.args.third in
+    let coordinates = map integer c.args.coordinates.now in
+    let with-answer = one_more_lem place [] (begun c.write_decimal-end.ensures) answer c.write_word-end.ensures in
+    let with-third = one_more_lem place (answer ∷ []) with-answer third c.write_number-end.ensures in
+    let with_all = more place (answer ∷ third ∷ []) with-third coordinates c.write_integers-end.ensures in
+    ended place (answer ∷ third ∷ coordinates) with_all (omega (arith, c.requires.0)) c.write_byte.ensures
