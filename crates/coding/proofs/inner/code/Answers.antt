@@ -1,0 +1,29 @@
+-- The chosen radius number, and the index of the point at its radius.
+use Rattle.std.proofs.Common.{◌∙◌}
+use Rattle.coding.proofs.Coding.{number_is, codeword_is, zero_coded, codable}
+use Rattle.coding.proofs.inner.code.Goals as goal
+
+pub returns-then-numbering-eq0 : goal.returns-then-numbering-eq0
+returns-then-numbering-eq0 c =
+    let xs = c.args.coefficients.now in
+    let is_total = c.measure-total.ensures.0 in
+    let chosen = c.choose-number.ensures.0 in
+    let of_row = c.of_row-numbering.ensures in
+    (number_is xs is_total chosen of_row, zero_coded xs is_total chosen of_row c.if-numbering-eq0.true)
+
+pub codeword-codeword-requires : goal.codeword-codeword-requires
+codeword-codeword-requires c =
+    let measured = c.measure-total.ensures in (
+      codable c.args.coefficients.now measured.0 c.choose-number.ensures.0 c.of_row-numbering.ensures c.requires.0.row_good c.requires.2 c.requires.1
+          c.if-numbering-eq0.false measured.1,
+      c.requires.4,
+      c.requires.5,
+    )
+
+pub returns : goal.returns
+returns c =
+    let xs = c.args.coefficients.now in
+    let is_total = c.measure-total.ensures.0 in
+    let chosen = c.choose-number.ensures.0 in
+    let of_row = c.of_row-numbering.ensures in
+    (number_is xs is_total chosen of_row, c.codeword-codeword.ensures ∙ codeword_is xs is_total chosen of_row)
