@@ -1,3 +1,4 @@
+-- What each turn of the loop keeps in `script::input::read_full`, and what falls with each turn.
 use Rattle.std.proofs.Common.{◌≡◌, ◌-◌, ◌≤◌, length, take}
 use Rattle.std.specs.Io.KnownBytes.{Consumes}
 use Rattle.script.proofs.input.read_full.Given as goal

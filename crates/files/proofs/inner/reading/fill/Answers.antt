@@ -1,4 +1,4 @@
--- `files::inner::reading::fill` fills a block with what comes, and answers how much that is.
+-- `files::inner::reading::fill` puts what comes next behind what came before.
 use Rattle.std.proofs.Common.{arith}
 use Rattle.files.proofs.Reading.{came_more}
 use Rattle.files.proofs.inner.reading.fill.Goals as goal
