@@ -19,7 +19,6 @@ use Rattle.laws.proofs.Pages.{page_numbered, page_books, page_size}
 use Rattle.rules.specs.Layouts.{turned, convert_says, convert_leaves}
 use Rattle.rules.specs.Taking.{page_check, page_checks}
 use Rattle.places.proofs.Opening.{told_to}
-use Rattle.places.specs.Opening.{places_told}
 
 module _ (t : List ℕ) (books : ℕ) (pg : List ℕ) {survey : Surveyed} {places row : ℕ} (says : survey_meaning survey ≡ survey_says (page_checks t books pg) t 0)
     (told : survey ≡ surveyed.Good places row) where
