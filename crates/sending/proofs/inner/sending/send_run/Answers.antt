@@ -1,0 +1,63 @@
+-- `sending::inner::sending::send_run` says and leaves what the call send is to say and leave behind the checks of the
+-- books, the table and the book: refusals 4, 4 and 11, and the buffer as it was; or the records of all places.
+use Rattle.std.proofs.Common.{[], length, ◌*◌, refl, sym, ap, ◌∙◌}
+use native.Mathlib.Omega.{arith}
+use borrow.Author.Tests.{eq-eqb, ne_eqb}
+use Rattle.answers.specs.Refusals.{verdict_meaning}
+use Rattle.answers.proofs.InOrder.{refusal_leaves, passes_leaves}
+use Rattle.tables.proofs.Good.{places_to}
+use Rattle.records.specs.Record.{record_length}
+use Rattle.runs.proofs.Judging.{says_run, run_usable}
+use Rattle.runs.specs.Run.{coordinates_in}
+use Rattle.runs.specs.Sending.{records_length, run_checks, records_of}
+use Rattle.sending.proofs.inner.sending.send_run.Goals as goal
+
+pub returns-then-run-coordinates : goal.returns-then-run-coordinates
+returns-then-run-coordinates c =
+    rw (ne_eqb (length c.args.run.now) (coordinates_in c.args.table.now) (λ same. c.if-run-coordinates.true (same ∙ sym c.coordinates.ensures))) (refl, refl)
+
+pub overflow_mul-places : goal.overflow_mul-places
+overflow_mul-places c = omega (arith, c.requires.0.is_places, places_to c.args.table.now c.requires.0.good)
+
+pub returns-then-out-places : goal.returns-then-out-places
+returns-then-out-places c =
+    let t = c.args.table.now in
+    let long = c.if-run-coordinates.false ∙ c.coordinates.ensures in
+    rw (
+      eq-eqb (length c.args.run.now) (coordinates_in t) long,
+      ne_eqb (length c.args.out.now) (records_length t) (λ same. c.if-out-places.true (same ∙ ap (λ n. record_length * n) (sym c.requires.0.is_places))),
+    )
+    (refl, refl)
+
+pub write_records-requires : goal.write_records-requires
+write_records-requires c =
+    let t = c.args.table.now in
+    let run = c.args.run.now in
+    let said = ap verdict_meaning (sym c.in-Passed.is) ∙ c.check_run.ensures in
+    let long = c.if-run-coordinates.false ∙ c.coordinates.ensures in
+    record {
+      measured = record { opened = c.requires.0; run_long = long };
+      book_to = c.requires.1;
+      all_usable = run_usable t run long (says_run t run said);
+      has_room = c.if-out-places.false ∙ ap (λ n. record_length * n) c.requires.0.is_places;
+    }
+
+pub returns-in-Passed : goal.returns-in-Passed
+returns-in-Passed c =
+    let t = c.args.table.now in
+    let run = c.args.run.now in
+    let said = ap verdict_meaning (sym c.in-Passed.is) ∙ c.check_run.ensures in
+    let long = c.if-run-coordinates.false ∙ c.coordinates.ensures in
+    let room = c.if-out-places.false ∙ ap (λ n. record_length * n) c.requires.0.is_places in
+    rw (eq-eqb (length run) (coordinates_in t) long, eq-eqb (length c.args.out.now) (records_length t) room)
+    (said, c.write_records.ensures ∙ sym (passes_leaves (records_of t c.args.book.0 run) c.args.out.now (run_checks t run) (says_run t run said)))
+
+pub returns-in-Refused : goal.returns-in-Refused
+returns-in-Refused c =
+    let t = c.args.table.now in
+    let run = c.args.run.now in
+    let said = ap verdict_meaning (sym c.in-Refused.is) ∙ c.check_run.ensures in
+    let long = c.if-run-coordinates.false ∙ c.coordinates.ensures in
+    let room = c.if-out-places.false ∙ ap (λ n. record_length * n) c.requires.0.is_places in
+    rw (eq-eqb (length run) (coordinates_in t) long, eq-eqb (length c.args.out.now) (records_length t) room)
+    (said, refusal_leaves (records_of t c.args.book.0 run) c.args.out.now [] (run_checks t run) c.in-Refused.refusal said)
