@@ -1,3 +1,4 @@
+-- What each turn of the loop keeps in `places::inner::showing::clear`, and what falls with each turn.
 use Rattle.std.proofs.Common.{◌≡◌, ◌-◌, ◌≤◌, pos, length, replicate}
 use Rattle.buffers.specs.Written.{written}
 use Rattle.places.proofs.inner.showing.clear.Given as goal
