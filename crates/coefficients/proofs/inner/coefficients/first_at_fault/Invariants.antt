@@ -1,4 +1,5 @@
--- What each turn of the loop keeps in `coefficients::inner::coefficients::first_at_fault`, and what falls with each turn.
+-- What each turn of the loop keeps in `coefficients::inner::coefficients::first_at_fault`, and
+-- what falls with each turn.
 use Rattle.std.proofs.Common.{ℕ, List, length, get_or, ◌-◌, ◌≡◌, ◌≤◌, ◌<◌, false}
 use lib.Ieee.{Float, nan}
 use Rattle.floats.specs.Units.{unusable_coefficient}

@@ -1,4 +1,5 @@
--- What each turn of the loop keeps in `coefficients::inner::coefficients::some_unusable`, and what falls with each turn.
+-- What each turn of the loop keeps in `coefficients::inner::coefficients::some_unusable`, and
+-- what falls with each turn.
 use Rattle.std.proofs.Common.{length, ◌-◌, ◌≡◌, ◌≤◌}
 use Rattle.coefficients.specs.Coefficients.{some_unusable}
 use Rattle.coefficients.proofs.inner.coefficients.some_unusable.Given as goal

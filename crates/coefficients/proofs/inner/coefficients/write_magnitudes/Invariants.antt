@@ -1,4 +1,5 @@
--- What each turn of the loop keeps in `coefficients::inner::coefficients::write_magnitudes`, and what falls with each turn.
+-- What each turn of the loop keeps in `coefficients::inner::coefficients::write_magnitudes`, and
+-- what falls with each turn.
 use Rattle.std.proofs.Common.{length, ◌-◌, ◌≡◌, ◌≤◌, map}
 use Rattle.buffers.specs.Written.{written}
 use Rattle.floats.specs.Nearest.{nearest_whole}
