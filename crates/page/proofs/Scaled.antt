@@ -1,6 +1,6 @@
 -- A coordinate of magnitude at most 32 times a step: the product fits an i32 and stays below 2^24. What a place
 -- shows has no larger coordinate.
-use Prim.Native.Nat.{ℕ, zero, suc, ◌+◌, ◌*◌, ◌^◌, ◌≤◌, ◌<◌}
+use Prim.Native.Nat.{ℕ, zero, suc, ◌*◌, ◌^◌, ◌≤◌, ◌<◌}
 use mathlib.Core.List.{List, [], ◌∷◌, ◌++◌}
 use mathlib.Core.Path.{◌≡◌, refl, ap, ◌∙◌}
 use native.Mathlib.Nat.{mul-le-mul, le_of_lt, lt_of_le_of_lt}

@@ -23,7 +23,7 @@ use Rattle.cells.proofs.Spots as spots
 use Rattle.laws.proofs.Layouts.{as_sized}
 use Rattle.laws.proofs.Pages.{page_books, page_size}
 use Rattle.rules.specs.Layouts.{as_cells}
-use Rattle.rules.specs.Taking.{cell_number, cell_for, bad_at, arrive_cell, take_rest, take_into}
+use Rattle.rules.specs.Taking.{cell_for, bad_at, arrive_cell, take_rest, take_into}
 use Rattle.places.proofs.Opening.{locatable, spot_in, page_there_lem, cell_there_lem}
 use Rattle.page.specs.Bounds.{Ready, place_named, other_named, Tells}
 

@@ -1,0 +1,12 @@
+-- What is seen of the place can be shown.
+use Rattle.std.proofs.Common.{◌∙◌}
+use Rattle.judging.proofs.Shown.{seen_shows}
+use Rattle.cells.specs.Spots.{cell_there}
+use Rattle.page.proofs.inner.reading.read_at.Goals as goal
+
+pub show-requires : goal.show-requires
+show-requires c =
+    let row = c.args.row.now in
+    let sees = c.in-At.ensures.1 in
+    let cell = cell_there c.args.page.now c.args.spot in
+    (c.requires.0, seen_shows c.args.mode.0 row cell c.requires.0 sees, sees.handed, c.if-out-length.false ∙ c.length.ensures)

@@ -1,0 +1,41 @@
+-- The places are counted in turn, up to one for which refusal 12 is given.
+use Rattle.std.proofs.Common.{ℕ, List, ap, ◌∙◌, arith}
+use Rattle.cells.specs.Spots.{cell_there}
+use Rattle.rules.specs.Judging.{judge}
+use Rattle.tables.proofs.Walking.{row_bytes}
+use Rattle.page.proofs.Tallying.{place_0, begins, count_fits, its_spot, its_cell, tally_12, counts_on}
+use Rattle.page.proofs.inner.tallying.tally_page.Goals as goal
+
+pub walk_from-walk-requires : goal.walk_from-walk-requires
+walk_from-walk-requires c = place_0 c.requires.0 c.requires.2
+
+pub loop-place-init : goal.loop-place-init
+loop-place-init c = begins c.args.layout c.args.page.now c.requires.0 c.requires.1 c.walk_from-walk.ensures
+
+pub locate-spot-requires : goal.locate-spot-requires
+locate-spot-requires c =
+    its_spot c.args.layout c.args.page.now c.requires.0 c.requires.1 c.loop-place.invariant c.loop-place-test.true c.walked-walk.ensures
+
+pub look-requires : goal.look-requires
+look-requires c =
+    let at_row = c.walked-walk.ensures in (
+      rw c.row_at.ensures.0 (row_bytes at_row),
+      its_cell c.args.layout c.args.page.now c.requires.0 c.requires.1 c.loop-place.invariant c.loop-place-test.true at_row c.locate-spot.ensures,
+    )
+
+pub returns-in-Bad : goal.returns-in-Bad
+returns-in-Bad c =
+    tally_12 c.args.layout c.args.page.now c.requires.0 c.requires.1 c.loop-place.invariant c.loop-place-test.true c.walked-walk.ensures c.locate-spot.ensures
+    c.in-Bad.ensures
+
+pub overflow_add-counts : goal.overflow_add-counts
+overflow_add-counts c =
+    omega (arith, count_fits c.args.layout c.args.page.now c.requires.0 c.requires.1 c.loop-place.invariant c.loop-place-test.true c.answer_number-n.result)
+
+pub loop-place-preserved : goal.loop-place-preserved
+loop-place-preserved c =
+    let seen = c.in-At.ensures in
+    let spot = c.locate-spot.result in
+    let judged = seen.1.is_judged ∙ ap (λ (row : List ℕ). judge c.args.mode.0 row (cell_there c.args.page.now spot)) c.row_at.ensures.0 in
+    counts_on c.args.layout c.args.page.now c.requires.0 c.requires.1 c.loop-place.invariant c.loop-place-test.true c.walked-walk.ensures c.locate-spot.ensures
+    seen.0 judged c.answer_number-n.ensures.0
