@@ -1,10 +1,10 @@
+-- `page::inner::taking::collect_parts` keeps that what is left of the run decides; what falls is what is left.
 use Rattle.std.proofs.Common.{◌≡◌, ◌-◌, ◌≤◌, length, drop}
 use Rattle.rules.specs.Layouts.{as_cells}
 use Rattle.rules.specs.Taking.{after, parts_of, collected}
 use Rattle.page.specs.Bounds.{Ready}
 use Rattle.page.proofs.inner.taking.collect_parts.Given as goal
 
--- what is left of the run decides
 abbrev pub invariant-loop-at : goal.invariant-loop-at
 invariant-loop-at l =
     (l.at ≤ length l.bytes)

@@ -1,3 +1,4 @@
+-- `page::inner::tallying::tally_page` keeps that the places so far are counted; what falls is how many are left.
 use Rattle.std.proofs.Common.{◌-◌}
 use Rattle.rules.specs.Layouts.{as_cells}
 use Rattle.page.proofs.Tallying.{Tallying}

@@ -1,3 +1,4 @@
+-- `report::inner::block::check_cells` keeps that the places left decide; what falls is how many are left.
 use Rattle.std.proofs.Common.{◌≡◌, ◌-◌, ◌≤◌, [], ◌∷◌}
 use Rattle.answers.specs.Checks.{first_of, each_from}
 use Rattle.rules.specs.Taking.{cell_check_at}

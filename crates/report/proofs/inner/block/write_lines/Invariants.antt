@@ -1,3 +1,4 @@
+-- `report::inner::block::write_lines` keeps that the lines so far are written; what falls is how many places are left.
 use Rattle.std.proofs.Common.{◌-◌, ◌≤◌}
 use Rattle.tables.specs.Way.{Walked}
 use Rattle.report.specs.Bounds.{page_spanned}
