@@ -66,27 +66,43 @@ kit_run() {
     "$kit/toolchain/lib/ld-linux-x86-64.so.2" --library-path "$kit/toolchain/lib" "$program" "$@"
 }
 
-# kit_is_old FILE: the file is not there, or a source has changed since. A folder is newer, too, where a file was added
-# or removed.
+# kit_is_old FILE: the file is not there, or a source or the kit has changed since. A folder is newer, too, where a file
+# was added or removed.
 kit_is_old() {
-    [ ! -e "$1" ] || [ -n "$(find crates/*/{src,specs,proofs} crates.txt -newer "$1" -print -quit 2>&-)" ]
+    local kit
+    kit=$(kit_folder) || return
+    [ ! -e "$1" ] || [ -n "$(find crates/*/{src,specs,proofs} crates.txt "$kit/KIT-ID" -newer "$1" -print -quit 2>&-)" ]
+}
+
+# kit_built MADE FILE: what was made becomes the file, as old as the sources were when the making began.
+kit_built() {
+    mkdir -p "$(dirname "$2")" && cp "$1" "$2" && touch -r target/begun "$2"
+}
+
+kit_begin() {
+    mkdir -p target && touch target/begun
 }
 
 kit_archive() {
-    local archive=target/staticlib/lib$1.a
+    local archive=target/staticlib/lib$1.a made=crates/$1_c/out/lib$1_c.a
     if kit_is_old "$archive"; then
-        (cd "crates/$1_c" && rt lib) || return
-        mkdir -p target/staticlib && cp "crates/$1_c/out/lib$1_c.a" "$archive"
+        kit_begin || return
+        rm -f "$made"
+        (cd "crates/$1_c" && rt check && rt lib) || return
+        kit_built "$made" "$archive" || return
     fi
 }
 
 # `rt run` builds a program and starts it where it has no files, so that it writes none. Its status is the program's.
 kit_program() {
-    local name
+    local name made
     for name in "$@"; do
+        made=crates/$name/out/$name
         if kit_is_old "target/bin/$name"; then
-            (cd "crates/$name" && rm -f "out/$name" && rt check && { rt run < /dev/null > /dev/null || [ -x "out/$name" ]; }) || return
-            mkdir -p target/bin && cp "crates/$name/out/$name" "target/bin/$name"
+            kit_begin || return
+            rm -f "$made"
+            (cd "crates/$name" && rt check && { rt run < /dev/null > /dev/null || [ -x "out/$name" ]; }) || return
+            kit_built "$made" "target/bin/$name" || return
         fi
     done
 }
