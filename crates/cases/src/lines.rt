@@ -3,7 +3,7 @@
 ghost use Rattle.std.specs.Prelude.{◌≤◌, length};
 
 use crate::books::Shelf;
-use crate::{books, checks, coefficients, indices, pages, shells};
+use crate::{books, checks, indices, pages, shells, vectors};
 use script::{input, output};
 
 pub fn run(rt: &impl Print, text: &[u8], room: &mut [u8]) {
@@ -58,8 +58,8 @@ fn case(rt: &impl Print, shelf: Shelf, line: &[u8], numbers: &[u64], room: &mut 
         b'p' => indices::point(rt, numbers),
         b't' => checks::check(rt, numbers, room),
         b'r' => checks::place(rt, numbers, room),
-        b'n' => coefficients::nearest(rt, numbers),
-        b'q' | b'S' => coefficients::run(rt, letter, shelf, numbers, room),
+        b'n' => vectors::nearest(rt, numbers),
+        b'q' | b'S' => vectors::run(rt, letter, shelf, numbers, room),
         b'T' | b'C' | b'R' | b'V' | b'A' | b'M' => pages::run(rt, letter, shelf, numbers, room),
         _ => (),
     }

@@ -7,11 +7,11 @@
 
 mod books;
 mod checks;
-mod coefficients;
 mod indices;
 mod lines;
 mod pages;
 mod shells;
+mod vectors;
 
 use script::input::read_full;
 

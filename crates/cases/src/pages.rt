@@ -5,8 +5,8 @@ ghost use Rattle.std.specs.Prelude.{◌<◌};
 
 use crate::books::Shelf;
 use crate::checks;
-use crate::coefficients::bytes;
 use crate::indices::coordinates;
+use crate::vectors::bytes;
 use conversion::{Conversion, to_cell_by_cell, to_states_first};
 use floats::inner::{is_negative, is_unusable, nearest_whole};
 use layout::Layout;

@@ -1,3 +1,3 @@
 // What the program is made of.
-pub mod records;
 pub mod run;
+pub mod writing;

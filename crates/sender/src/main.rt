@@ -10,8 +10,8 @@ ghost use Rattle.std.specs.Prelude.{◌≤◌};
 
 use files::inner::printing::print_refused;
 use files::inner::reading::{read_file, read_table};
-use inner::records::write_records;
 use inner::run::send_bytes;
+use inner::writing::write_records;
 use pairing::{Checked, check};
 use sending::Sending;
 use std::rt::Files;

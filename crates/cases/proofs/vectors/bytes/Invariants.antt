@@ -1,6 +1,6 @@
--- What falls with each turn in `cases::coefficients::bytes`.
+-- What falls with each turn in `cases::vectors::bytes`.
 use Rattle.std.proofs.Common.{◌-◌, length}
-use Rattle.cases.proofs.coefficients.bytes.Given as goal
+use Rattle.cases.proofs.vectors.bytes.Given as goal
 
 -- every byte is written once
 abbrev pub decreases-loop-at : goal.decreases-loop-at

@@ -1,6 +1,6 @@
--- What each turn of the loop keeps in `cases::coefficients::fill`, and what falls with each turn.
+-- What each turn of the loop keeps in `cases::vectors::fill`, and what falls with each turn.
 use Rattle.std.proofs.Common.{◌≡◌, ◌-◌, length}
-use Rattle.cases.proofs.coefficients.fill.Given as goal
+use Rattle.cases.proofs.vectors.fill.Given as goal
 
 -- every coefficient is set once
 abbrev pub invariant-loop-i : goal.invariant-loop-i
