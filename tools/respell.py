@@ -36,8 +36,8 @@ def read(path):
 
 
 def hand_written(path):
-    """Whether a file is one of definitions or lemmas, and not the proof of a function."""
-    return path.endswith(".antt") and os.path.basename(path) not in ("Proof.antt", "Answers.antt", "Invariants.antt")
+    """Whether a file is one of definitions or lemmas, and not the proof of a function, which has a folder of its own."""
+    return path.endswith(".antt") and os.path.basename(os.path.dirname(path)) in ("specs", "proofs")
 
 
 def old_form(word):

@@ -28,13 +28,13 @@ answers mode t good pg book p h =
     let shows = judge_shows mode row (row_lawful row) (good_place t p good h).1 (cell_for t pg book p) in
     record { shows = shows; exact = exact_shown t p (judge_at mode t pg book p) shows }
 
-each-count : (f : ℕ → ℕ) (n j : ℕ) → j < 5 → get_or (counts_of f n) j 0 ≡ count_of f j n
-each-count f n zero h = refl
-each-count f n (suc zero) h = refl
-each-count f n (suc (suc zero)) h = refl
-each-count f n (suc (suc (suc zero))) h = refl
-each-count f n (suc (suc (suc (suc zero)))) h = refl
-each-count f n (suc (suc (suc (suc (suc j))))) h = absurd (omega arith)
+each_count : (f : ℕ → ℕ) (n j : ℕ) → j < 5 → get_or (counts_of f n) j 0 ≡ count_of f j n
+each_count f n zero h = refl
+each_count f n (suc zero) h = refl
+each_count f n (suc (suc zero)) h = refl
+each_count f n (suc (suc (suc zero))) h = refl
+each_count f n (suc (suc (suc (suc zero)))) h = refl
+each_count f n (suc (suc (suc (suc (suc j))))) h = absurd (omega arith)
 
 pub tallies : (mode : ℕ) (t : List ℕ) (books book : ℕ) (pg : List ℕ) → number_said (tally_says mode t books book pg) ≡ 0 → Tallies mode t books book pg
 tallies mode t books book pg said =
@@ -47,6 +47,6 @@ tallies mode t books book pg said =
       said =
           says_through (whole_checks mode t books book pg) (tally_rest t pg book) (0 ∷ tally_of mode t pg book) passes
           (none_of (fails_of (tally_rest t pg book)) none.1.1.1.1.1.0);
-      each = λ j h. each-count (answer_at mode t pg book) (places_in t) j h;
+      each = λ j h. each_count (answer_at mode t pg book) (places_in t) j h;
       sum = tally_sum mode t pg book;
     }

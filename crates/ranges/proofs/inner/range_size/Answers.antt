@@ -16,8 +16,8 @@ room-shapes-requires c =
 pub overflow_mul-result-2 : goal.overflow_mul-result-2
 overflow_mul-result-2 c =
     let a = c.args in
-    let is-room = room_size a.s a.radius.0 c.shape_count.ensures a.field c.room-shapes.ensures in
-    rw (c.pattern_count.ensures, is-room, c.sign_count.ensures)
+    let is_room = room_size a.s a.radius.0 c.shape_count.ensures a.field c.room-shapes.ensures in
+    rw (c.pattern_count.ensures, is_room, c.sign_count.ensures)
     (three_fit (D a.s a.length.0) (size_of a.field a.s a.radius.0) (B a.s)
     (D_small_enough a.s a.length.0 (omega arith))
     (F_small_enough a.field a.s a.radius.0 (omega arith) (omega arith))
@@ -27,5 +27,5 @@ pub returns : goal.returns
 unfolding range_size
 returns c =
     let a = c.args in
-    let is-room = room_size a.s a.radius.0 c.shape_count.ensures a.field c.room-shapes.ensures in
-    ap₂ ◌*◌ (ap₂ ◌*◌ c.pattern_count.ensures is-room) c.sign_count.ensures
+    let is_room = room_size a.s a.radius.0 c.shape_count.ensures a.field c.room-shapes.ensures in
+    ap₂ ◌*◌ (ap₂ ◌*◌ c.pattern_count.ensures is_room) c.sign_count.ensures

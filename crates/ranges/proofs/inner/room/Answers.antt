@@ -18,5 +18,5 @@ power-requires c = omega (arith, c.width.ensures, width_to c.args.shapes c.requi
 pub overflow_cast-result : goal.overflow_cast-result
 overflow_cast-result c =
     let n = c.args.shapes in
-    let is-power : c.power.result ≡ 2 ^ width n = c.power.ensures ∙ ap (λ (b : ℕ). 2 ^ b) c.width.ensures in
-    record { fits = rw is-power (lt_of_le_of_lt (pow_mono (width_to n c.requires)) (lit< tt)) }
+    let is_power : c.power.result ≡ 2 ^ width n = c.power.ensures ∙ ap (λ (b : ℕ). 2 ^ b) c.width.ensures in
+    record { fits = rw is_power (lt_of_le_of_lt (pow_mono (width_to n c.requires)) (lit< tt)) }

@@ -12,9 +12,9 @@ use Rattle.enumeration.proofs.RangeOf.{found_below, none_found}
 use Rattle.product.proofs.inner.range.holds.Goals as goal
 
 -- at radius 0 the one index is 0
-at-0 : (F : ℕ → ℕ → ℕ) (l k n : ℕ) → k ≡ 0 → eqb n 0 ≡ ltb n (field_total F l k)
-at-0 F l k zero e = rw (e, total_at_0 F l)
-at-0 F l k (suc n) e = rw (e, total_at_0 F l) (ne_eqb (suc n) 0 (omega arith) ∙ sym (le-ltb (suc n) 1 (omega arith)))
+at_0 : (F : ℕ → ℕ → ℕ) (l k n : ℕ) → k ≡ 0 → eqb n 0 ≡ ltb n (field_total F l k)
+at_0 F l k zero e = rw (e, total_at_0 F l)
+at_0 F l k (suc n) e = rw (e, total_at_0 F l) (ne_eqb (suc n) 0 (omega arith) ∙ sym (le-ltb (suc n) 1 (omega arith)))
 
 pub returns-then-range-gt0 : goal.returns-then-range-gt0
 returns-then-range-gt0 c =
@@ -30,4 +30,4 @@ returns-then-radius-gt0 c =
     sym (le-ltb c.args.n (field_total F c.args.length.0 c.args.radius.0) past)
 
 pub returns : goal.returns
-returns c = at-0 (size_of c.args.field) c.args.length.0 c.args.radius.0 c.args.n (omega (arith, c.if-radius-gt0.false))
+returns c = at_0 (size_of c.args.field) c.args.length.0 c.args.radius.0 c.args.n (omega (arith, c.if-radius-gt0.false))

@@ -12,9 +12,9 @@ use Rattle.tables.proofs.Faults.{radius_above_largest}
 use Rattle.rows.proofs.inner.fault.largest_in.Goals as goal
 
 -- the shells of a row have as many indices as the shape field of its selector makes
-row-total : (row : List ℕ) (k : ℕ) → shell_total row k ≡ field_total (size_of (field_in (selected_of (selector_of row)))) (length_of row) k
+row_total : (row : List ℕ) (k : ℕ) → shell_total row k ≡ field_total (size_of (field_in (selected_of (selector_of row)))) (length_of row) k
 unfolding enumeration_of
-row-total row k = total_selected (selector_of row) (length_of row) k
+row_total row k = total_selected (selector_of row) (length_of row) k
 
 pub returns : goal.returns
 returns c k =
@@ -22,4 +22,4 @@ returns c k =
     let is_field : c.field_of-field.result ≡ field_in (selected_of (selector_of row)) =
     c.field_of-field.ensures ∙ ap field_in (c.select.ensures ∙ ap selected_of c.selector.ensures) in
     ap (λ (most : ℕ). ltb most k) (c.largest_radius.ensures ∙ ap₂ largest_radius is_field c.length.ensures)
-    ∙ radius_above_largest (field_in (selected_of (selector_of row))) row k c.requires.1 c.requires.2 (row-total row k)
+    ∙ radius_above_largest (field_in (selected_of (selector_of row))) row k c.requires.1 c.requires.2 (row_total row k)

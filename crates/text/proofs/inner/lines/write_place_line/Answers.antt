@@ -11,7 +11,7 @@ returns c =
     let answer = word c.args.answer in
     let third = decimal c.args.third in
     let coordinates = map integer c.args.coordinates.now in
-    let with-answer = one_more_lem place [] (begun c.write_decimal-end.ensures) answer c.write_word-end.ensures in
-    let with-third = one_more_lem place (answer ∷ []) with-answer third c.write_number-end.ensures in
-    let with_all = more place (answer ∷ third ∷ []) with-third coordinates c.write_integers-end.ensures in
+    let with_answer = one_more_lem place [] (begun c.write_decimal-end.ensures) answer c.write_word-end.ensures in
+    let with_third = one_more_lem place (answer ∷ []) with_answer third c.write_number-end.ensures in
+    let with_all = more place (answer ∷ third ∷ []) with_third coordinates c.write_integers-end.ensures in
     ended place (answer ∷ third ∷ coordinates) with_all (omega (arith, c.requires.0)) c.write_byte.ensures
