@@ -5,6 +5,7 @@ ghost use Rattle.counts.specs.Counts.{D};
 ghost use Rattle.patterns.specs.Words.{stored};
 
 // Word i. The last arm is not taken.
+#[tactic(auto, unfolding(counts::specs::Counts::binomial, counts::specs::Counts::D, crate::specs::Words::together, crate::specs::Words::stored))]
 fn word(i: usize) -> u64
     requires { i < 85 }
     ensures { result ≡ stored i }

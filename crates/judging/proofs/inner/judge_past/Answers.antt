@@ -30,7 +30,7 @@ unfolding distance
 returns-then-mode-eq-PLAIN c =
     let a = c.args in
     let power = is_power a.total c.width-b.ensures c.power.ensures in
-    let is_plain = eq-eqb a.mode.0 0 c.if-mode-eq-PLAIN.true in
+    let is_plain = eq-eqb a.mode.0 0 (omega arith) in
     (codeword_past a.mode.0 (names_in a.numbering) a.total a.numbering.radius.0 a.n (omega (arith, power, c.if-power-n.false)) c.requires.3 is_plain, tt)
 
 pub power-requires-2 : goal.power-requires-2
@@ -56,7 +56,7 @@ returns-then-names c =
     let a = c.args in
     let power = is_power a.total c.width-b.ensures c.power.ensures in
     let half = is_half a.total c.width-b.ensures c.power-2.ensures in
-    let mends = ne_eqb a.mode.0 0 c.if-mode-eq-PLAIN.false in
+    let mends = ne_eqb a.mode.0 0 (λ (e : a.mode.0 ≡ 0). omega arith) in
     let named = rw half at (sym c.names.ensures ∙ c.if-names.true) in (
       rw half
           (codeword_mended a.mode.0 (names_in a.numbering) a.total a.numbering.radius.0 a.n (omega (arith, power, c.if-power-n.false)) c.requires.3 mends named),
@@ -68,6 +68,6 @@ returns c =
     let a = c.args in
     let power = is_power a.total c.width-b.ensures c.power.ensures in
     let half = is_half a.total c.width-b.ensures c.power-2.ensures in
-    let mends = ne_eqb a.mode.0 0 c.if-mode-eq-PLAIN.false in
+    let mends = ne_eqb a.mode.0 0 (λ (e : a.mode.0 ≡ 0). omega arith) in
     let empty = rw half at (sym c.names.ensures ∙ c.if-names.false) in
     (codeword_mended_empty a.mode.0 (names_in a.numbering) a.total a.numbering.radius.0 a.n (omega (arith, power, c.if-power-n.false)) c.requires.3 mends empty, tt)

@@ -1,17 +1,17 @@
 -- What refusal 12 tests of a cell, as the code tests it.
-use Rattle.std.proofs.Common.{ℕ, not, nat_eq, sym, ap, ◌∙◌}
+use Rattle.std.proofs.Common.{ℕ, not, nat_eq, sym, ap, ◌∙◌, arith}
 use Rattle.cells.proofs.States.{bad_above, not_held, of_another_book, held_elsewhere, held_here}
 use Rattle.cells.proofs.inner.rule.bad_cell.Goals as goal
 
 pub returns-then-state-gt2 : goal.returns-then-state-gt2
 returns-then-state-gt2 c =
     let named = c.args.named in
-    bad_above named.book named.place named.row (record { state = c.args.state; bytes = c.args.bytes.now }) c.if-state-gt2.true
+    bad_above named.book named.place named.row (record { state = c.args.state; bytes = c.args.bytes.now }) (omega arith)
 
 pub returns-then-state-ne1 : goal.returns-then-state-ne1
 returns-then-state-ne1 c =
     let named = c.args.named in
-    not_held named.book named.place named.row (record { state = c.args.state; bytes = c.args.bytes.now }) c.if-state-gt2.false c.if-state-ne1.true
+    not_held named.book named.place named.row (record { state = c.args.state; bytes = c.args.bytes.now }) (omega arith) c.if-state-ne1.true
 
 pub returns-then-held-named : goal.returns-then-held-named
 returns-then-held-named c =
