@@ -1,6 +1,6 @@
 -- `script::input::read_full` puts what comes next behind what came before.
 use Rattle.std.proofs.Common.{arith}
-use Rattle.filling.proofs.Reads.{came_more}
+use Rattle.filling.proofs.Filled.{came_more}
 use Rattle.script.proofs.input.read_full.Goals as goal
 
 pub loop-filled-preserved : goal.loop-filled-preserved

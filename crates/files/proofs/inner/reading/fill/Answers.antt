@@ -1,6 +1,6 @@
 -- `files::inner::reading::fill` puts what comes next behind what came before.
 use Rattle.std.proofs.Common.{arith}
-use Rattle.filling.proofs.Reads.{came_more}
+use Rattle.filling.proofs.Filled.{came_more}
 use Rattle.files.proofs.inner.reading.fill.Goals as goal
 
 pub loop-filled-preserved : goal.loop-filled-preserved
