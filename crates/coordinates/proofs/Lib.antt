@@ -1,2 +1,3 @@
 pub mod Coordinates
 pub mod Writing
+pub mod Sums

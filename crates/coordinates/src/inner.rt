@@ -3,16 +3,11 @@ ghost use Rattle.std.specs.Prelude.{◌≡◌, ◌^◌, ◌≤◌, nat_abs, leng
 ghost use Rattle.enumeration.specs.Point as points;
 ghost use Rattle.enumeration.specs.Point.{radius_of};
 
-// The magnitude, widened before it is negated: the lowest value has no negation among the i32.
+// The magnitude; the lowest value's is 2^31.
 pub fn magnitude(c: i32) -> u64
     ensures { (result ≡ nat_abs c) × (result ≤ 2 ^ 31) }
 {
-    let wide = c as i64;
-    if wide < 0 {
-        (-wide) as u64
-    } else {
-        wide as u64
-    }
+    u64::from(c.unsigned_abs())
 }
 
 // The sum of the magnitudes of a vector, summed wide.
@@ -20,13 +15,7 @@ pub fn magnitude_sum(x: &[i32]) -> u64
     requires { length x.now ≤ 16 }
     ensures { result ≡ radius_of x.now }
 {
-    let mut at = x.len();
-    let mut sum: u64 = 0;
-    while 0 < at {
-        at -= 1;
-        sum += magnitude(x[at]);
-    }
-    sum
+    x.iter().map(|c| magnitude(*c)).sum()
 }
 
 // A magnitude with its sign restored by negation.
