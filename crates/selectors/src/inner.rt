@@ -17,13 +17,11 @@ pub enum Selected {
 pub fn select(selector: Selector) -> Selected
     ensures { result ≡ selected_of selector.0 }
 {
-    if selector.0 == 0 {
-        return Selected::Product(Field::Exact);
+    match selector.0 {
+        0 => Selected::Product(Field::Exact),
+        1 => Selected::Magnitude,
+        _ => Selected::Product(Field::Bits),
     }
-    if selector.0 == 1 {
-        return Selected::Magnitude;
-    }
-    Selected::Product(Field::Bits)
 }
 
 // The shape field whose ranges have as many numbers as there are indices: the magnitude enumeration has N, as the exact
