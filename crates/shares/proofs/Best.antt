@@ -1,10 +1,9 @@
 -- The first best of some numbers is unbeaten, and better than all before it; only one number is so. Both for the
 -- smaller and for the larger being better.
-use Prim.Native.Nat.{ℕ, zero, suc, ◌+◌, ◌≤◌, ◌<◌}
+use Prim.Native.Nat.{ℕ, zero, suc, ◌+◌, ◌-◌, ◌≤◌, ◌<◌}
 use mathlib.Core.Path.{◌≡◌, refl, sym, ap, ◌∙◌}
 use mathlib.Core.Bool.{Bool, true, false, cond, false≢true}
 use native.Mathlib.Omega.{arith}
-use native.Mathlib.Numerals.{add-one}
 use native.Mathlib.Decide.{dec_lt}
 use borrow.Author.Tests.{lt-ltb, le-ltb, ltb-true, ltb-false}
 use Rattle.shares.specs.Best.{first_best, smaller, larger, IsFirstBest}
@@ -70,27 +69,35 @@ module _ (beats : ℕ → ℕ → Bool) (order : Order beats) (f : ℕ → ℕ) 
       go (no h) (yes g) = absurd (false≢true (sym (q.unbeaten b p.among) ∙ p.first c g))
       go (no h) (no g) = omega arith
 
--- a loop that goes through the numbers has the first best of those up to n, and its value
+-- a loop that goes through the numbers has at n the first best of those before n, and its value; at 0 it has 0
 pub record Scan (beats : ℕ → ℕ → Bool) (f : ℕ → ℕ) (n b v : ℕ) : Type 0 where
-  pub reached : b ≤ n
-  pub best : b ≡ first_best beats f n
+  pub reached : b ≤ n - 1
+  pub best : b ≡ first_best beats f (n - 1)
   pub value : v ≡ f b
 
 module _ (beats : ℕ → ℕ → Bool) (f : ℕ → ℕ) where
-  pub scan_begins : (v : ℕ) → v ≡ f 0 → Scan beats f 0 0 v
+  pub scan_begins : (n v : ℕ) → n ≤ 1 → v ≡ f 0 → Scan beats f n 0 v
   unfolding first_best
-  scan_begins v same = record { reached = omega arith; best = refl; value = same }
+  scan_begins n v h same = let none : n - 1 ≡ 0 = omega arith in record { reached = omega arith; best = rw none refl; value = same }
 
-  tested : {n b v w : ℕ} (t : Bool) → Scan beats f n b v → w ≡ f (n + 1) → beats w v ≡ t → beats (f (suc n)) (f (first_best beats f n)) ≡ t
+  tested : {n b v w : ℕ} (t : Bool) → Scan beats f (suc n) b v → w ≡ f (suc n) → beats w v ≡ t → beats (f (suc n)) (f (first_best beats f n)) ≡ t
   tested {n} {b} {v} {w} t scan same h =
-      ap (λ (x : ℕ). beats x (f (first_best beats f n))) (ap f (sym (add-one n)) ∙ sym same)
-      ∙ ap (λ (y : ℕ). beats w y) (ap f (sym scan.best) ∙ sym scan.value)
+      let back : suc n - 1 ≡ n = omega arith in
+      ap (λ (x : ℕ). beats x (f (first_best beats f n))) (sym same)
+      ∙ ap (λ (y : ℕ). beats w y) (ap f (sym (rw back at scan.best)) ∙ sym scan.value)
       ∙ h
 
-  pub scan_takes : {n b v w : ℕ} → Scan beats f n b v → w ≡ f (n + 1) → beats w v ≡ true → Scan beats f (n + 1) (n + 1) w
+  pub scan_takes : (n : ℕ) {b v w : ℕ} → Scan beats f n b v → w ≡ f n → beats w v ≡ true → Scan beats f (n + 1) n w
   unfolding first_best
-  scan_takes {n} scan same h = record { reached = omega arith; best = rw (add-one n, tested true scan same h) refl; value = same }
+  scan_takes zero scan same h = scan_begins 1 _ (omega arith) same
+  scan_takes (suc n) scan same h =
+      let back : suc n + 1 - 1 ≡ suc n = omega arith in
+      record { reached = omega arith; best = rw (back, tested true scan same h) refl; value = same }
 
-  pub scan_passes : {n b v w : ℕ} → Scan beats f n b v → w ≡ f (n + 1) → beats w v ≡ false → Scan beats f (n + 1) b v
+  pub scan_passes : (n : ℕ) {b v w : ℕ} → Scan beats f n b v → w ≡ f n → beats w v ≡ false → Scan beats f (n + 1) b v
   unfolding first_best
-  scan_passes {n} scan same h = record { reached = omega (arith, scan.reached); best = rw (add-one n, tested false scan same h) scan.best; value = scan.value }
+  scan_passes zero scan same h = record { reached = omega (arith, scan.reached); best = scan.best; value = scan.value }
+  scan_passes (suc n) scan same h =
+      let back : suc n + 1 - 1 ≡ suc n = omega arith in
+      let before : suc n - 1 ≡ n = omega arith in
+      record { reached = omega (arith, scan.reached); best = rw (back, tested false scan same h) (rw before at scan.best); value = scan.value }

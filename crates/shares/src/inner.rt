@@ -8,13 +8,7 @@ pub fn sum(numbers: &[u32]) -> u32
     requires { (length numbers.now ≤ 16) × AllUpTo (2 ^ 23) numbers.now }
     ensures { (result ≡ sum_of numbers.now) × (result ≤ 2 ^ 27) }
 {
-    let mut at = numbers.len();
-    let mut sum = 0;
-    while 0 < at {
-        at -= 1;
-        sum += numbers[at];
-    }
-    sum
+    numbers.iter().sum()
 }
 
 // In the place of each magnitude a the whole part of k x a / A, and in `rests` the remainder.
@@ -23,12 +17,10 @@ fn divide(k: u32, total: u32, magnitudes: &mut [u32], rests: &mut [u32])
     ensures { (magnitudes.new ≡ map (whole_part k total) magnitudes.old)
         × (rests.new ≡ map (remainder k total) magnitudes.old) }
 {
-    let mut at = 0;
-    while at < magnitudes.len() {
-        let scaled = k * magnitudes[at];
-        magnitudes[at] = scaled / total;
+    for (at, magnitude) in magnitudes.iter_mut().enumerate() {
+        let scaled = k * *magnitude;
+        *magnitude = scaled / total;
         rests[at] = scaled % total;
-        at += 1;
     }
 }
 
@@ -37,16 +29,12 @@ fn largest(rests: &[u32]) -> usize
     requires { 0 < length rests.now }
     ensures { (result ≡ sharing.largest rests.now) × (result < length rests.now) }
 {
-    let last = rests.len() - 1;
-    let mut at = 0;
     let mut best = 0;
     let mut most = rests[0];
-    while at < last {
-        at += 1;
-        let rest = rests[at];
-        if most < rest {
+    for (at, rest) in rests.iter().enumerate() {
+        if most < *rest {
             best = at;
-            most = rest;
+            most = *rest;
         }
     }
     best
@@ -58,12 +46,10 @@ fn give(units: usize, rests: &mut [u32], shares: &mut [u32])
     ensures { (shares.new ≡ sharing.give units rests.old shares.old)
         × (rests.new ≡ left_of units rests.old) }
 {
-    let mut left = units;
-    while 0 < left {
+    for _ in 0..units {
         let at = largest(rests);
         rests[at] = 0;
         shares[at] += 1;
-        left -= 1;
     }
 }
 

@@ -1,28 +1,16 @@
 // The choice of the radius.
 ghost use Rattle.std.specs.Prelude.{◌≡◌, ◌≤◌, ◌<◌, length};
-ghost use Rattle.floats.specs.Nearest.{gap};
 ghost use Rattle.tables.specs.Row.{row_length, radii_of};
 ghost use Rattle.coefficients.specs.Radius.{miss_by, chosen_radius_number};
 
 use rows::inner::row::{radii, radius, step};
 
-// |A - k x step|, `reach` being k x step.
-fn apart(total: usize, reach: usize) -> usize
-    ensures { result ≡ gap total reach }
-{
-    if total < reach {
-        reach - total
-    } else {
-        total - reach
-    }
-}
-
-// By how much the radius of a number misses the total.
+// By how much the radius of a number misses the total, |A - k x step|.
 fn miss_by(row: &[u8], total: usize, number: usize) -> usize
     requires { (length row.now ≡ row_length) × (number < 8) }
     ensures { result ≡ miss_by row.now total number }
 {
-    apart(total, radius(row, number).0 * step(row))
+    total.abs_diff(radius(row, number).0 * step(row))
 }
 
 // The radius number that misses it by the least, the first of several.
@@ -30,12 +18,9 @@ pub fn choose(row: &[u8], total: usize) -> usize
     requires { (length row.now ≡ row_length) × (1 ≤ radii_of row.now) × (radii_of row.now ≤ 8) }
     ensures { (result ≡ chosen_radius_number row.now total) × (result < 8) }
 {
-    let last = radii(row) - 1;
-    let mut number = 0;
     let mut best = 0;
     let mut least = miss_by(row, total, 0);
-    while number < last {
-        number += 1;
+    for number in 1..radii(row) {
         let miss = miss_by(row, total, number);
         if miss < least {
             best = number;
