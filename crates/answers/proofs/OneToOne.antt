@@ -7,11 +7,10 @@ use mathlib.Core.List.{List, [], ◌∷◌}
 use native.Mathlib.Omega.{arith}
 use lib.Dec.{lit≤}
 use lib.ListN.{length, get_or, get_or-eq_default}
+use Rattle.std.specs.Prelude.{Result, Ok, Err}
 use Rattle.answers.specs.declared.Refusal.{Refusal}
 use Rattle.answers.specs.declared.Refusal.TheVariants as refusal
-use Rattle.answers.specs.declared.Verdict.{Verdict}
-use Rattle.answers.specs.declared.Verdict.TheVariants as verdict
-use Rattle.answers.specs.Refusals.{meaning, number_of, first_named, verdict_meaning}
+use Rattle.answers.specs.Refusals.{meaning, number_of, first_named, result_meaning, no_values, verdict_meaning}
 
 -- 11 names a coordinate, or a place and a coordinate
 coefficient_of : List ℕ → Refusal
@@ -107,23 +106,25 @@ nothing_more r n =
 pub meaning_one_to_one : (r r' : Refusal) → meaning r ≡ meaning r' → r ≡ r'
 meaning_one_to_one = one_to_one meaning refusal_of (λ r. ap refusal_of (said r).says ∙ (said r).back)
 
--- an answer is read back from 0 and its values, or from a refusal
-unfoldable pub answer_of : {A : Type 0} → (List ℕ → A) → (Refusal → A) → List ℕ → A
-answer_of values refused [] = values []
-answer_of values refused (zero ∷ vs) = values vs
-answer_of values refused (suc n ∷ vs) = refused (refusal_of (suc n ∷ vs))
+-- an answer is read back from 0 and what it tells, or from a refusal
+unfoldable pub result_of : {A : Type 0} → (List ℕ → A) → List ℕ → Result A Refusal
+result_of back [] = Ok (back [])
+result_of back (zero ∷ vs) = Ok (back vs)
+result_of back (suc n ∷ vs) = Err (refusal_of (suc n ∷ vs))
 
-pub answer_refused : {A : Type 0} (values : List ℕ → A) (refused : Refusal → A) (r : Refusal) → answer_of values refused (meaning r) ≡ refused r
-unfolding answer_of
-answer_refused values refused r = ap (answer_of values refused) (said r).says ∙ ap refused (said r).back
+pub refusal_back : {A : Type 0} (back : List ℕ → A) (r : Refusal) → result_of back (meaning r) ≡ Err r
+unfolding result_of
+refusal_back back r = ap (result_of back) (said r).says ∙ ap Err (said r).back
 
-verdict_of : List ℕ → Verdict
-verdict_of vs = answer_of (λ n. verdict.Passed) verdict.Refused vs
+-- The law of every call: where what an answer tells can be read back, answers that say the same are the same.
+pub result_one_to_one : {A : Type 0} (tells : A → List ℕ) (back : List ℕ → A) → ((a : A) → back (tells a) ≡ a)
+    → (r s : Result A Refusal) → result_meaning tells r ≡ result_meaning tells s → r ≡ s
+unfolding result_of
+result_one_to_one {A = A} tells back h = one_to_one (result_meaning tells) (result_of back) whole
+  where
+    whole : (r : Result A Refusal) → result_of back (result_meaning tells r) ≡ r
+    whole (Ok a) = ap Ok (h a)
+    whole (Err r) = refusal_back back r
 
-verdict_back : (a : Verdict) → verdict_of (verdict_meaning a) ≡ a
-unfolding verdict_of answer_of
-verdict_back verdict.Passed = refl
-verdict_back (verdict.Refused r) = answer_refused (λ n. verdict.Passed) verdict.Refused r
-
-pub verdict_one_to_one : (a b : Verdict) → verdict_meaning a ≡ verdict_meaning b → a ≡ b
-verdict_one_to_one = one_to_one verdict_meaning verdict_of verdict_back
+pub verdict_one_to_one : (r s : Result (Unit {0}) Refusal) → verdict_meaning r ≡ verdict_meaning s → r ≡ s
+verdict_one_to_one = result_one_to_one no_values (λ vs. tt) (λ passed. refl)

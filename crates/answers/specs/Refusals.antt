@@ -1,10 +1,8 @@
 -- What a refusal says: its number in the table of docs/RULES.md, "Refusal numbers", then the values that the table
 -- names (for 11 and 12, the place that a call for a whole page names, too), at most two.
-use Rattle.std.specs.Prelude.{ℕ, List, [], ◌∷◌, length, get_or, drop}
+use Rattle.std.specs.Prelude.{ℕ, List, [], ◌∷◌, length, get_or, drop, Result, Ok, Err}
 use Rattle.answers.specs.declared.Refusal.{Refusal}
 use Rattle.answers.specs.declared.Refusal.TheVariants as refusal
-use Rattle.answers.specs.declared.Verdict.{Verdict}
-use Rattle.answers.specs.declared.Verdict.TheVariants as verdict
 
 abbrev pub meaning : Refusal → List ℕ
 meaning refusal.LengthOutside = 1 ∷ []
@@ -48,7 +46,18 @@ printed (n ∷ []) = n ∷ []
 printed (n ∷ v ∷ []) = n ∷ []
 printed (n ∷ p ∷ i ∷ vs) = n ∷ p ∷ i ∷ []
 
--- what a check answers that has nothing to tell but whether it passed
-abbrev pub verdict_meaning : Verdict → List ℕ
-verdict_meaning verdict.Passed = 0 ∷ []
-verdict_meaning (verdict.Refused r) = meaning r
+-- what a call answers, or a check: 0 and what its answer tells, or its refusal's number and values
+abbrev pub result_meaning : {A : Type 0} → (A → List ℕ) → Result A Refusal → List ℕ
+result_meaning tells (Ok a) = 0 ∷ tells a
+result_meaning tells (Err r) = meaning r
+
+-- what an answer tells of one number
+abbrev pub one_number : ℕ → List ℕ
+one_number n = n ∷ []
+
+-- that every check has passed, or that the work is done, and nothing more
+abbrev pub no_values : Unit {0} → List ℕ
+no_values passed = []
+
+abbrev pub verdict_meaning : Result (Unit {0}) Refusal → List ℕ
+verdict_meaning = result_meaning no_values

@@ -5,7 +5,7 @@
 ghost use Rattle.std.specs.Prelude.{◌≡◌};
 ghost use Rattle.answers.specs.Refusals.{number_of, first_named, second_named, named_by};
 
-#[derive(Clone, Copy)]
+#[derive(Clone, Copy, Debug, PartialEq, Eq)]
 pub enum Refusal {
     // 1: length outside 1 to 16
     LengthOutside,
@@ -49,13 +49,6 @@ pub enum Refusal {
 // where it names none; and how many it names.
 #[derive(Clone, Copy)]
 pub struct Numbers(pub u32, pub usize, pub usize, pub usize);
-
-// What a check answers that has nothing to tell but whether it passed.
-#[derive(Clone, Copy)]
-pub enum Verdict {
-    Passed,
-    Refused(Refusal),
-}
 
 pub fn in_numbers(refusal: Refusal) -> Numbers
     ensures { (result.0 ≡ number_of refusal) × (result.1 ≡ first_named refusal) × (result.2 ≡ second_named refusal) × (result.3 ≡ named_by refusal) }

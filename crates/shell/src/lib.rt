@@ -10,45 +10,37 @@ ghost use Rattle.counts.specs.Width as widths;
 ghost use Rattle.tables.specs.Usable.{shell_checks};
 ghost use Rattle.shell.specs.Shell.{count_meaning, count_says};
 
-use answers::{Refusal, Verdict};
+use answers::Refusal;
 use counts::{Field, Length, Radius};
 use ranges::inner::{index_count, largest_radius};
 
-#[derive(Clone, Copy)]
-pub enum Counted {
-    Points(u64),
-    Refused(Refusal),
-}
-
 // The call count: how many points a shell has.
-pub fn count(length: Length, radius: Radius) -> Counted
+pub fn count(length: Length, radius: Radius) -> Result<u64, Refusal>
     ensures { count_meaning result ≡ count_says length.0 radius.0 }
 {
-    match check_shell(Field::Exact, length, radius) {
-        Verdict::Passed => Counted::Points(index_count(Field::Exact, length, radius)),
-        Verdict::Refused(refusal) => Counted::Refused(refusal),
-    }
+    check_shell(Field::Exact, length, radius)?;
+    Ok(index_count(Field::Exact, length, radius))
 }
 
 // The checks 1, 2 and 3, by the total that a shape field makes: those of count, and of index and point behind that of
 // the selector.
-pub fn check_shell(field: Field, length: Length, radius: Radius) -> Verdict
+pub fn check_shell(field: Field, length: Length, radius: Radius) -> Result<(), Refusal>
     ensures { verdict_meaning result
         ≡ first_of (shell_checks length.0 radius.0 (field_total (size_of field) length.0 radius.0)) (0 ∷ []) }
 {
     if length.0 < 1 {
-        return Verdict::Refused(Refusal::LengthOutside);
+        return Err(Refusal::LengthOutside);
     }
     if 16 < length.0 {
-        return Verdict::Refused(Refusal::LengthOutside);
+        return Err(Refusal::LengthOutside);
     }
     if 32 < radius.0 {
-        return Verdict::Refused(Refusal::RadiusAbove);
+        return Err(Refusal::RadiusAbove);
     }
     if largest_radius(field, length) < radius.0 {
-        return Verdict::Refused(Refusal::ShellTooLarge);
+        return Err(Refusal::ShellTooLarge);
     }
-    Verdict::Passed
+    Ok(())
 }
 
 // The width of a total: the least number of bits b with 2^b at least n.
