@@ -6,6 +6,7 @@ use mathlib.Core.Path.{◌≡◌, refl, sym, ap, ap₂, ◌∙◌}
 use mathlib.Core.List.{List, [], ◌∷◌, ◌++◌}
 use mathlib.Core.Bool.{true, false}
 use lib.ListN.{length}
+use Rattle.std.specs.Prelude.{Result, Ok, Err}
 use Rattle.answers.specs.Refusals.{meaning}
 use Rattle.answers.specs.Checks.{Check, any_of, first_of, leaves, fails_of, Passes}
 use Rattle.answers.specs.declared.Refusal.{Refusal}
@@ -17,7 +18,6 @@ use Rattle.tables.proofs.Good.{good_place}
 use Rattle.tables.proofs.PlaceChecks.{place_numbered}
 use Rattle.pairing.specs.Meanings.{survey_meaning}
 use Rattle.pairing.specs.declared.inner.survey.Surveyed.{Surveyed}
-use Rattle.pairing.specs.declared.inner.survey.Surveyed.TheVariants as surveyed
 
 -- what was surveyed: the checks pass, and these are the places of the table and the row of the place
 pub record Surveys (checks : List Check) (t : List ℕ) (p places row : ℕ) : Type 0 where
@@ -25,16 +25,16 @@ pub record Surveys (checks : List Check) (t : List ℕ) (p places row : ℕ) : T
   pub is_places : places ≡ places_in t
   pub is_row : row ≡ row_of t p
 
-module _ (checks : List Check) (t : List ℕ) (p : ℕ) {survey : Surveyed} (says : survey_meaning survey ≡ survey_says checks t p) where
-  pub survey_good : {places row : ℕ} → Numbered checks → survey ≡ surveyed.Good places row → Surveys checks t p places row
-  survey_good {places} {row} numbered told =
+module _ (checks : List Check) (t : List ℕ) (p : ℕ) {survey : Result Surveyed Refusal} (says : survey_meaning survey ≡ survey_says checks t p) where
+  pub survey_good : {s : Surveyed} → Numbered checks → survey ≡ Ok s → Surveys checks t p s.places s.row
+  survey_good {s} numbered told =
       let e = ap survey_meaning (sym told) ∙ says in
-      let good = says_passes (places_in t ∷ row_of t p ∷ []) (places ∷ row ∷ []) checks numbered (sym e) in
+      let good = says_passes (places_in t ∷ row_of t p ∷ []) (s.places ∷ s.row ∷ []) checks numbered (sym e) in
       let said = e ∙ passes_says (0 ∷ places_in t ∷ row_of t p ∷ []) checks good in
       record { passes = good; is_places = cc; is_row = cc }
 
   -- a refusal stands whatever else would have been checked, and leaves a lent buffer as it was
-  module _ {r : Refusal} (told : survey ≡ surveyed.Bad r) where
+  module _ {r : Refusal} (told : survey ≡ Err r) where
     said : meaning r ≡ survey_says checks t p
     said = ap survey_meaning (sym told) ∙ says
 
@@ -66,9 +66,9 @@ module _ {checks : List Check} {t : List ℕ} {p places row : ℕ} (found : Surv
       told ∙ passed_says checks (c ∷ []) (0 ∷ places_in t ∷ row_of t p ∷ []) found.passes
 
 -- a table and a place of a book that were found good
-pub surveyed_place : (t : List ℕ) (books book p : ℕ) {survey : Surveyed} {places row : ℕ}
+pub surveyed_place : (t : List ℕ) (books book p : ℕ) {survey : Result Surveyed Refusal} {s : Surveyed}
     → survey_meaning survey ≡ survey_says (place_checks t books book p) t p
-    → survey ≡ surveyed.Good places row → Surveys (place_checks t books book p) t p places row
+    → survey ≡ Ok s → Surveys (place_checks t books book p) t p s.places s.row
 surveyed_place t books book p says told = survey_good (place_checks t books book p) t p says (place_numbered t books book p) told
 
 -- the row of a surveyed place is one of the table

@@ -9,20 +9,11 @@ ghost use Rattle.tables.specs.Table.{check_says};
 ghost use Rattle.pairing.specs.Meanings.{check_meaning};
 
 use answers::Refusal;
-use inner::survey::{Surveyed, survey};
-
-#[derive(Clone, Copy)]
-pub enum Checked {
-    Places(usize),
-    Refused(Refusal),
-}
+use inner::survey::survey;
 
 // The call check: how many places a table has.
-pub fn check(table: &[u8]) -> Checked
+pub fn check(table: &[u8]) -> Result<usize, Refusal>
     ensures { check_meaning result ≡ check_says table.now }
 {
-    match survey(table, 0) {
-        Surveyed::Good { places, row: _ } => Checked::Places(places),
-        Surveyed::Bad(refusal) => Checked::Refused(refusal),
-    }
+    Ok(survey(table, 0)?.places)
 }

@@ -13,48 +13,47 @@ use tables::{Book, Books};
 fn books_outside(books: Books) -> bool
     ensures { result ≡ books_outside books.0 }
 {
-    if books.0 < 1 {
-        return true;
-    }
-    16 < books.0
+    books.0 < 1 || 16 < books.0
 }
 
 // The number of books, and the table; and the row of a place, if the table has that place.
-pub fn survey_shared(table: &[u8], books: Books, place: usize) -> Surveyed
+pub fn survey_shared(table: &[u8], books: Books, place: usize) -> Result<Surveyed, Refusal>
     ensures { survey_meaning result ≡ survey_says (sharing_checks table.now books.0) table.now place }
 {
     if books_outside(books) {
-        return Surveyed::Bad(Refusal::BooksOutside);
+        return Err(Refusal::BooksOutside);
     }
     survey(table, place)
 }
 
 // The number of books, the table, and a book; and the row of a place, if the table has that place.
-pub fn survey_book(table: &[u8], books: Books, book: Book, place: usize) -> Surveyed
+pub fn survey_book(
+    table: &[u8],
+    books: Books,
+    book: Book,
+    place: usize,
+) -> Result<Surveyed, Refusal>
     ensures { survey_meaning result ≡ survey_says (book_checks table.now books.0 book.0) table.now place }
 {
-    match survey_shared(table, books, place) {
-        Surveyed::Good { places, row } => {
-            if books.0 <= book.0 {
-                return Surveyed::Bad(Refusal::NoSuchPlace);
-            }
-            Surveyed::Good { places, row }
-        }
-        Surveyed::Bad(refusal) => Surveyed::Bad(refusal),
+    let surveyed = survey_shared(table, books, place)?;
+    if books.0 <= book.0 {
+        return Err(Refusal::NoSuchPlace);
     }
+    Ok(surveyed)
 }
 
 // The number of books, the table, a book, and a place in it.
-pub fn survey_place(table: &[u8], books: Books, book: Book, place: usize) -> Surveyed
+pub fn survey_place(
+    table: &[u8],
+    books: Books,
+    book: Book,
+    place: usize,
+) -> Result<Surveyed, Refusal>
     ensures { survey_meaning result ≡ survey_says (place_checks table.now books.0 book.0 place) table.now place }
 {
-    match survey_book(table, books, book, place) {
-        Surveyed::Good { places, row } => {
-            if places <= place {
-                return Surveyed::Bad(Refusal::NoSuchPlace);
-            }
-            Surveyed::Good { places, row }
-        }
-        Surveyed::Bad(refusal) => Surveyed::Bad(refusal),
+    let surveyed = survey_book(table, books, book, place)?;
+    if surveyed.places <= place {
+        return Err(Refusal::NoSuchPlace);
     }
+    Ok(surveyed)
 }

@@ -9,12 +9,12 @@ use answers::Refusal;
 use rows::inner::fault::bad_row;
 use rows::inner::row::{places, row_at};
 
+// What a survey tells of a good table: the number of places, and the row of the place that was asked for, or the
+// number of rows where there is no such place.
 #[derive(Clone, Copy)]
-pub enum Surveyed {
-    // the number of places, and the row of the place that was asked for, or the number of rows where there is no
-    // such place
-    Good { places: usize, row: usize },
-    Bad(Refusal),
+pub struct Surveyed {
+    pub places: usize,
+    pub row: usize,
 }
 
 // A table whose size is not 1 to 32 whole rows.
@@ -22,39 +22,31 @@ fn wrong_size(table: &[u8]) -> bool
     ensures { result ≡ wrong_size (length table.now) }
 {
     let n = table.len();
-    if n < 1 {
-        return true;
-    }
-    if 512 < n {
-        return true;
-    }
-    n % 16 != 0
+    n < 1 || 512 < n || n % 16 != 0
 }
 
-// The table: `at` goes through the rows; `sum` and `row` are the places and the row of those before it.
-pub fn survey(table: &[u8], place: usize) -> Surveyed
+// The table: `sum` and `row` are the places and the row of those rows that were gone through.
+pub fn survey(table: &[u8], place: usize) -> Result<Surveyed, Refusal>
     ensures { survey_meaning result ≡ survey_says (table_checks table.now) table.now place }
 {
     if wrong_size(table) {
-        return Surveyed::Bad(Refusal::BadTable { row: 0 });
+        return Err(Refusal::BadTable { row: 0 });
     }
     let rows = table.len() / 16;
-    let mut at = 0;
     let mut sum = 0;
     let mut row = 0;
-    while at < rows {
+    for at in 0..rows {
         let bytes = row_at(table, at);
         if bad_row(bytes) {
-            return Surveyed::Bad(Refusal::BadTable { row: at });
+            return Err(Refusal::BadTable { row: at });
         }
         sum += places(bytes);
         if 4096 < sum {
-            return Surveyed::Bad(Refusal::BadTable { row: at });
+            return Err(Refusal::BadTable { row: at });
         }
         if sum <= place {
             row += 1;
         }
-        at += 1;
     }
-    Surveyed::Good { places: sum, row }
+    Ok(Surveyed { places: sum, row })
 }
