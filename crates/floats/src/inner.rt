@@ -7,12 +7,12 @@ ghost use Rattle.floats.specs.Units.{unusable_coefficient, negative};
 ghost use Rattle.floats.specs.Nearest.{nearest_whole};
 ghost use Rattle.floats.specs.Exact.{over256};
 
-// The patterns of NaN are those beyond infinity's, with the sign off.
+// The patterns of NaN are those beyond infinity's, with the sign off. The library's `from_bits` takes none of them.
 pub fn from_pattern(bits: u32) -> f32
     ensures { result ≡ of_bits binary32 bits }
 {
     if 2139095040 < bits % 2147483648 {
-        return 0.0 / 0.0;
+        return f32::NAN;
     }
     f32::from_bits(bits)
 }
@@ -44,7 +44,7 @@ fn rounded(x: f32) -> u32
     (x * 256.0 + 8388608.0) as u32 - 8388608
 }
 
-// The magnitude of the whole number nearest to 256x.
+// The magnitude of the whole number nearest to 256x. The library's `abs` tests for zero too, and was slower.
 pub fn nearest_whole(x: f32) -> u32
     requires { unusable_coefficient x ≡ false }
     ensures { (result ≡ nearest_whole x) × (result ≤ 2 ^ 23) }
