@@ -9,31 +9,20 @@ ghost use Rattle.tables.specs.Usable.{IsUsable};
 
 use counts::{Field, Length, Radius};
 
+// The largest radius of each length whose N is at most 2^32; there is no length 0.
+const LARGEST_RADII: [usize; 17] = [
+    0, 32, 32, 32, 32, 32, 32, 32, 32, 27, 22, 18, 16, 15, 13, 12, 12,
+];
+
+// How many radii of each length a field of bits loses.
+const LOST_RADII: [usize; 17] = [0, 0, 0, 0, 0, 0, 0, 0, 0, 1, 1, 0, 0, 1, 0, 0, 1];
+
 // The largest radius of this length whose N is at most 2^32.
 fn largest_by_count(length: Length) -> usize
     requires { (1 ≤ length.0) × (length.0 ≤ 16) }
     ensures { (result ≡ get_or largest_radii length.0 0) × (1 ≤ result) }
 {
-    let l = length.0;
-    match l {
-        1 => 32,
-        2 => 32,
-        3 => 32,
-        4 => 32,
-        5 => 32,
-        6 => 32,
-        7 => 32,
-        8 => 32,
-        9 => 27,
-        10 => 22,
-        11 => 18,
-        12 => 16,
-        13 => 15,
-        14 => 13,
-        15 => 12,
-        16 => 12,
-        _ => 0,
-    }
+    LARGEST_RADII[length.0]
 }
 
 // How many radii of this length a field of bits loses.
@@ -41,26 +30,7 @@ fn lost_radii(length: Length) -> usize
     requires { (1 ≤ length.0) × (length.0 ≤ 16) }
     ensures { (result ≡ get_or lost_radii length.0 0) × (result ≤ 1) }
 {
-    let l = length.0;
-    match l {
-        1 => 0,
-        2 => 0,
-        3 => 0,
-        4 => 0,
-        5 => 0,
-        6 => 0,
-        7 => 0,
-        8 => 0,
-        9 => 1,
-        10 => 1,
-        11 => 0,
-        12 => 0,
-        13 => 1,
-        14 => 0,
-        15 => 0,
-        16 => 1,
-        _ => 0,
-    }
+    LOST_RADII[length.0]
 }
 
 // The largest radius of a usable shell of this length.
@@ -79,10 +49,7 @@ pub fn largest_radius(field: Field, length: Length) -> usize
 pub fn width(n: u64) -> u32
     ensures { result ≡ widths.width n }
 {
-    if n <= 1 {
-        return 0;
-    }
-    64 - u64::leading_zeros(n - 1)
+    u64::BITS - n.saturating_sub(1).leading_zeros()
 }
 
 // 2^b.
@@ -105,11 +72,7 @@ pub fn sign_count(s: usize) -> u64
 pub fn most_nonzero(length: Length, radius: Radius) -> usize
     ensures { result ≡ counted.most_nonzero length.0 radius.0 }
 {
-    if length.0 < radius.0 {
-        length.0
-    } else {
-        radius.0
-    }
+    length.0.min(radius.0)
 }
 
 // The pattern count D(s,l), which is stored.
@@ -135,7 +98,7 @@ pub fn room(field: Field, shapes: u32) -> u32
 {
     match field {
         Field::Exact => shapes,
-        Field::Bits => power(width(shapes as u64) as usize) as u32,
+        Field::Bits => shapes.next_power_of_two(),
     }
 }
 
@@ -153,11 +116,9 @@ pub fn range_start(field: Field, s: usize, length: Length, radius: Radius) -> u6
     requires { IsUsable length.0 radius.0 (field_total (size_of field) length.0 radius.0) }
     ensures { result ≡ range_start (size_of field) s length.0 radius.0 }
 {
-    let mut i = most_nonzero(length, radius);
-    let mut start: u64 = 0;
-    while s < i {
-        start += range_size(field, i, length, radius);
-        i -= 1;
+    let mut start = 0;
+    for i in (s..most_nonzero(length, radius)).rev() {
+        start += range_size(field, i + 1, length, radius);
     }
     start
 }

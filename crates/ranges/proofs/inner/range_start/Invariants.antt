@@ -1,5 +1,4 @@
--- The loop goes down from m: what is summed is the start of the range for i, and i stays from the smaller of s and m
--- to m.
+-- The loop goes down from m: what is summed is the start of the range for i, and i stays from the smaller of s and m on.
 use Prim.Native.Nat.{◌≤◌, min}
 use mathlib.Core.Path.{◌≡◌}
 use Rattle.counts.specs.Counts.{most_nonzero, range_start}
@@ -8,9 +7,4 @@ use Rattle.ranges.proofs.inner.range_start.Given as goal
 
 abbrev pub invariant-loop-i : goal.invariant-loop-i
 invariant-loop-i l =
-    (l.i ≤ most_nonzero l.length.0 l.radius.0)
-    × (min l.s (most_nonzero l.length.0 l.radius.0) ≤ l.i)
-    × (l.start ≡ range_start (size_of l.field) l.i l.length.0 l.radius.0)
-
-abbrev pub decreases-loop-i : goal.decreases-loop-i
-decreases-loop-i l = l.i
+    (min l.s (most_nonzero l.length.0 l.radius.0) ≤ l.i) × (l.start ≡ range_start (size_of l.field) l.i l.length.0 l.radius.0)

@@ -1,22 +1,26 @@
--- The least power of two that is enough fits, since the width of 2^31 is 31.
-use Prim.Native.Nat.{ℕ, ◌^◌, ◌≤◌}
-use mathlib.Core.Path.{◌≡◌, ap, ◌∙◌}
-use native.Mathlib.Nat.{lt_of_le_of_lt}
+-- The least power of two that is enough is that of the width.
+use Prim.Native.Nat.{ℕ, zero, suc, ◌^◌, ◌/◌, ◌≤◌, ◌<◌, max}
+use mathlib.Core.Path.{◌≡◌, sym, ap, ◌∙◌}
+use native.Mathlib.Nat.{pow-suc}
 use native.Mathlib.Omega.{arith}
-use lib.Dec.{lit<}
-use lib.Pow.{pow_mono}
+use lib.Pow.{pow_pos}
+use Rattle.counts.specs.Fields.{room_for}
 use Rattle.counts.specs.Width.{width}
-use Rattle.counts.proofs.Widths.{width_is}
+use Rattle.counts.specs.declared.Field.{Field}
+use Rattle.counts.proofs.Widths.{width_is, width_between}
 use Rattle.ranges.proofs.inner.room.Goals as goal
 
-width_to : (n : ℕ) → n ≤ 2 ^ 31 → width n ≤ 31
-width_to n h = (width_is n).least 31 h
+exponent : (n b : ℕ) → n ≤ 2 ^ b → 2 ^ b / 2 < max 1 n → b ≡ width n
+exponent n zero h q = let least : width n ≤ 0 = (width_is n).least 0 h in omega arith
+exponent n (suc j) h q =
+    let half : 2 ^ suc j / 2 ≡ 2 ^ j = omega (arith, pow-suc 2 j) in
+    sym (width_between n j (omega (arith, half, pow_pos j)) h)
 
-pub power-requires : goal.power-requires
-power-requires c = omega (arith, c.width.ensures, width_to c.args.shapes c.requires)
-
-pub overflow_cast-result : goal.overflow_cast-result
-overflow_cast-result c =
+pub returns-in-Bits : goal.returns-in-Bits
+returns-in-Bits c =
     let n = c.args.shapes in
-    let is_power : c.power.result ≡ 2 ^ width n = c.power.ensures ∙ ap (λ (b : ℕ). 2 ^ b) c.width.ensures in
-    record { fits = rw is_power (lt_of_le_of_lt (pow_mono (width_to n c.requires)) (lit< tt)) }
+    let next = c.next_power_of_two.ensures in
+    let b = next.power.0 in
+    let is_power = next.power.1 in
+    let is_width : b ≡ width n = exponent n b (rw is_power at next.lower_bound) (rw is_power at next.upper_bound) in
+    is_power ∙ ap (λ (x : ℕ). 2 ^ x) is_width ∙ ap (λ (f : Field). room_for f n) (sym c.in-Bits.is)

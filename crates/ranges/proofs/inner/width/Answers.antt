@@ -1,14 +1,19 @@
 -- Above 1 the leading zeros of n - 1 leave a number of bits j with 2^(j-1) < n and n at most 2^j.
 use Prim.Native.Nat.{ℕ, suc, ◌+◌, ◌-◌, ◌^◌, ◌≤◌, ◌<◌}
-use mathlib.Core.Path.{◌≡◌, sym, ◌∙◌}
+use mathlib.Core.Path.{◌≡◌, sym, ap, ◌∙◌}
+use native.Mathlib.Decide.{dec_le}
 use native.Mathlib.Omega.{arith}
-use lib.Count.{count_leading_zeros, leading_top}
+use lib.Count.{count_leading_zeros, leading_of_zero, leading_top}
 use Rattle.counts.specs.Width.{width}
 use Rattle.counts.proofs.Widths.{width_is, width_between}
 use Rattle.ranges.proofs.inner.width.Goals as goal
 
-small : (n : ℕ) → n ≤ 1 → 0 ≡ width n
-small n h = let least : width n ≤ 0 = (width_is n).least 0 h in omega arith
+small : (n : ℕ) → n ≤ 1 → 64 - count_leading_zeros 64 (n - 1) ≡ width n
+small n h =
+    let least : width n ≤ 0 = (width_is n).least 0 h in
+    let none : n - 1 ≡ 0 = omega arith in
+    let whole : count_leading_zeros 64 (n - 1) ≡ 64 = ap (count_leading_zeros 64) none ∙ leading_of_zero 64 in
+    omega arith
 
 large : (n : ℕ) → 1 < n → n < 2 ^ 64 → 64 - count_leading_zeros 64 (n - 1) ≡ width n
 large n h q =
@@ -19,8 +24,12 @@ large n h q =
     let high : n ≤ 2 ^ suc top.0 = omega (arith, top.3) in
     bits ∙ sym (width_between n top.0 low high)
 
-pub returns-then-n-le1 : goal.returns-then-n-le1
-returns-then-n-le1 c = small c.args.n (omega arith)
+both : (n : ℕ) → n < 2 ^ 64 → 64 - count_leading_zeros 64 (n - 1) ≡ width n
+both n q = go (dec_le n 1)
+  where
+    go : Dec (n ≤ 1) → 64 - count_leading_zeros 64 (n - 1) ≡ width n
+    go (yes h) = small n h
+    go (no h) = large n (omega arith) q
 
 pub returns : goal.returns
-returns c = large c.args.n (omega arith) c.ranges.n.fits
+returns c = rw c.saturating_sub.ensures (both c.args.n c.ranges.n.fits)
