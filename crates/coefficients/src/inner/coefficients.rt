@@ -6,7 +6,7 @@ ghost use Rattle.coefficients.specs.Coefficients.{usable_checks, FirstAtFault, s
 ghost use Rattle.coefficients.specs.Points.{magnitudes_of, signed_by};
 ghost use Rattle.shares.specs.Shares.{AllUpTo};
 
-use answers::{Refusal, Verdict};
+use answers::Refusal;
 use coordinates::inner::signed;
 use floats::inner::{is_negative, is_unusable, nearest_whole};
 
@@ -40,14 +40,14 @@ pub fn some_unusable(coefficients: &[f32]) -> bool
 }
 
 // The first coordinate at fault is refused.
-pub fn check_coefficients(coefficients: &[f32]) -> Verdict
+pub fn check_coefficients(coefficients: &[f32]) -> Result<(), Refusal>
     ensures { verdict_meaning result ≡ first_of (usable_checks coefficients.now) (0 ∷ []) }
 {
     let at = first_at_fault(coefficients);
     if at < coefficients.len() {
-        return Verdict::Refused(Refusal::UnusableCoefficient { coordinate: at });
+        return Err(Refusal::UnusableCoefficient { coordinate: at });
     }
-    Verdict::Passed
+    Ok(())
 }
 
 pub fn write_magnitudes(coefficients: &[f32], out: &mut [u32])
