@@ -1,20 +1,16 @@
 -- The check of the page's length behind a survey by any checks, and what a place of such a page is known by.
-use Prim.Native.Nat.{ℕ, zero, suc, ◌≤◌, ◌<◌}
-use mathlib.Core.Bool.{Bool, true, false}
+use Prim.Native.Nat.{ℕ, ◌≤◌, ◌<◌}
+use mathlib.Core.Bool.{Bool}
 use mathlib.Core.List.{List, [], ◌∷◌, ◌++◌}
-use mathlib.Core.Path.{◌≡◌, refl, sym, ap, ◌∙◌}
-use native.Mathlib.Nat.{mul-zero}
-use native.Mathlib.Omega.{arith}
+use mathlib.Core.Path.{◌≡◌, refl, ap, ap₂, ◌∙◌}
 use lib.ListN.{length}
-use Rattle.answers.proofs.InOrder.{Numbered}
-use Rattle.answers.proofs.OneToOne.{said}
-use Rattle.answers.specs.Checks.{Check, pick, first_of, Passes}
-use Rattle.answers.specs.Refusals.{meaning}
+use Rattle.std.specs.Prelude.{Result, Ok}
+use Rattle.answers.proofs.InOrder.{passed_says}
+use Rattle.answers.specs.Checks.{Check, first_of, Passes}
 use Rattle.answers.specs.declared.Refusal.{Refusal}
 use Rattle.pairing.proofs.Surveys.{Surveys, survey_good}
 use Rattle.pairing.specs.Meanings.{survey_meaning}
 use Rattle.pairing.specs.declared.inner.survey.Surveyed.{Surveyed}
-use Rattle.pairing.specs.declared.inner.survey.Surveyed.TheVariants as surveyed
 use Rattle.tables.proofs.Good.{good_row, places_to}
 use Rattle.tables.proofs.PlaceChecks.{sharing_good, sharing_to}
 use Rattle.tables.proofs.Places.{row_below}
@@ -34,52 +30,21 @@ use Rattle.laws.proofs.Pages.{Sized, look_numbered, look_shared, look_place, loo
 use Rattle.rules.specs.Layouts.{as_cells}
 use Rattle.rules.specs.Reading.{look_checks}
 use Rattle.rules.specs.Taking.{cell_for, bad_at, page_check}
-use Rattle.places.specs.Opening.{places_told, with_page}
-
--- what is said behind a survey that was no refusal; `wrong` is what was found of the length, by the number of cells
-pub page_judged : (books b : ℕ) {survey : Surveyed} {places row n : ℕ} {wrong : Bool} → survey ≡ surveyed.Good places row → n ≡ cells_of places books
-    → wrong ≡ (page_length_check n b).fails → pick wrong (4 ∷ []) (0 ∷ places ∷ row ∷ []) ≡ with_page (survey_meaning survey) books b
-page_judged books b {places = places} {row = row} told is_cells is_wrong =
-    ap (λ (w : Bool). pick w (4 ∷ []) (0 ∷ places ∷ row ∷ [])) (is_wrong ∙ ap (λ (n : ℕ). (page_length_check n b).fails) is_cells)
-    ∙ ap (λ (s : Surveyed). with_page (survey_meaning s) books b) (sym told)
-
--- a refusal stands
-pub refusal_stands : (books b : ℕ) {survey : Surveyed} {r : Refusal} → survey ≡ surveyed.Bad r → meaning r ≡ with_page (survey_meaning survey) books b
-refusal_stands books b {r = r} told =
-    let number = (said r).says in
-    number ∙ sym (ap (λ (says : List ℕ). with_page says books b) number) ∙ ap (λ (s : Surveyed). with_page (survey_meaning s) books b) (sym told)
 
 -- the check of the page's length stands behind those of any survey
-with_page_lem : (checks : List Check) (places row books b : ℕ) → Numbered checks
-    → with_page (first_of checks (0 ∷ places ∷ row ∷ [])) books b
-    ≡ first_of (checks ++ (page_length_check (cells_of places books) b ∷ [])) (0 ∷ places ∷ row ∷ [])
-with_page_lem [] places row books b numbered = refl
-with_page_lem (c ∷ checks) places row books b numbered = by_check c.fails c.number numbered.0 (with_page_lem checks places row books b numbered.1)
-  where
-    by_check : (fails : Bool) (n : ℕ) → 0 < n
-        → with_page (first_of checks (0 ∷ places ∷ row ∷ [])) books b
-        ≡ first_of (checks ++ (page_length_check (cells_of places books) b ∷ [])) (0 ∷ places ∷ row ∷ [])
-        → with_page (pick fails (n ∷ c.values) (first_of checks (0 ∷ places ∷ row ∷ []))) books b
-        ≡ pick fails (n ∷ c.values) (first_of (checks ++ (page_length_check (cells_of places books) b ∷ [])) (0 ∷ places ∷ row ∷ []))
-    by_check true zero above rest = absurd (omega arith)
-    by_check true (suc n) above rest = refl
-    by_check false n above rest = rest
+module _ {checks : List Check} {t : List ℕ} {p places row : ℕ} (books : ℕ) (found : Surveys checks t p places row) where
+  pub page_behind : (pg : List ℕ) {said : List ℕ} → said ≡ first_of (page_length_check (cells_of places books) (length pg) ∷ []) (0 ∷ places ∷ row ∷ [])
+      → said ≡ survey_says (checks ++ (page_check t books pg ∷ [])) t p
+  page_behind pg says =
+      says
+      ∙ ap₂ (λ (n r : ℕ). first_of (page_length_check (cells_of n books) (length pg) ∷ []) (0 ∷ n ∷ r ∷ [])) found.is_places found.is_row
+      ∙ passed_says checks (page_check t books pg ∷ []) (0 ∷ places_in t ∷ row_of t p ∷ []) found.passes
 
-pub page_behind : (checks : List Check) (t : List ℕ) (books p : ℕ) (pg : List ℕ) → Numbered checks → {said with_it : List ℕ} → said ≡ survey_says checks t p
-    → with_it ≡ with_page said books (length pg) → with_it ≡ survey_says (checks ++ (page_check t books pg ∷ [])) t p
-page_behind checks t books p pg numbered says with-says =
-    with-says
-    ∙ ap (λ (said : List ℕ). with_page said books (length pg)) says
-    ∙ with_page_lem checks (places_in t) (row_of t p) books (length pg) numbered
-
--- a table that passes has at most 4,096 places, and at most 16 books share it
-pub told_to : (checks : List Check) (t : List ℕ) (books p : ℕ) (survey : Surveyed) → Numbered checks → (Passes checks → GoodBooks t books)
-    → survey_meaning survey ≡ survey_says checks t p → cells_of (places_told survey) books ≤ 65536
-told_to checks t books p (surveyed.Good places row) numbered good says =
-    let found = survey_good checks t p {survey = surveyed.Good places row} says numbered refl in
-    let shared = good found.passes in
-    cells_to places books (rw found.is_places (places_to t (sharing_good t books shared))) (sharing_to t books shared)
-told_to checks t books p (surveyed.Bad refusal) numbered good says = rw (mul-zero books) (omega arith)
+  -- a table that passes has at most 4,096 places, and at most 16 books share it
+  pub told_to : (Passes checks → GoodBooks t books) → cells_of places books ≤ 65536
+  told_to good =
+      let shared = good found.passes in
+      cells_to places books (rw found.is_places (places_to t (sharing_good t books shared))) (sharing_to t books shared)
 
 -- ---- a place of a book in a page of the right length: where it is looked for, and what stands there
 module _ (t : List ℕ) (books : ℕ) (shared : GoodBooks t books) {places : ℕ} (is_places : places ≡ places_in t) (named : Named)
@@ -128,8 +93,8 @@ module _ (layout : Layout) (mode : ℕ) (t : List ℕ) (books book : ℕ) (page 
   pub look_says : {said : List ℕ} → said ≡ survey_says (look_checks mode t books book page p) t p → said ≡ survey_says (look_checks mode t books book pg p) t p
   look_says says = says ∙ ap (λ (checks : List Check). survey_says checks t p) (same_look_checks layout t books page mode book p)
 
-  pub look_found : {survey : Surveyed} {places row : ℕ} → survey_meaning survey ≡ survey_says (look_checks mode t books book page p) t p
-      → survey ≡ surveyed.Good places row → Surveys (look_checks mode t books book pg p) t p places row
+  pub look_found : {survey : Result Surveyed Refusal} {s : Surveyed} → survey_meaning survey ≡ survey_says (look_checks mode t books book page p) t p
+      → survey ≡ Ok s → Surveys (look_checks mode t books book pg p) t p s.places s.row
   look_found says told = survey_good (look_checks mode t books book pg p) t p (look_says says) (look_numbered mode t books book pg p) told
 
   module _ {places row : ℕ} (found : Surveys (look_checks mode t books book pg p) t p places row) where

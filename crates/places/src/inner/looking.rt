@@ -10,12 +10,6 @@ use judging::inner::{Seen, judge};
 use layout::inner::{record_at, state_at};
 use rules::Mode;
 
-#[derive(Clone, Copy)]
-pub enum Looked {
-    Bad,
-    At(Seen),
-}
-
 // The answer of the cell of a place in this row, in this mode.
 pub fn judge_at(mode: Mode, row: &[u8], page: &[u8], spot: Spot) -> Seen
     requires { IsRow row.now × SpotIn page.now spot }
@@ -31,13 +25,13 @@ pub fn judge_at(mode: Mode, row: &[u8], page: &[u8], spot: Spot) -> Seen
     )
 }
 
-// The cell of a place in this row.
-pub fn look(mode: Mode, row: &[u8], page: &[u8], spot: Spot) -> Looked
+// The cell of a place in this row; none where refusal 12 is given for it.
+pub fn look(mode: Mode, row: &[u8], page: &[u8], spot: Spot) -> Option<Seen>
     requires { IsRow row.now × SpotIn page.now spot }
     ensures { Looks mode.0 row.now spot.named (cell_there page.now spot) result }
 {
     if bad_at(page, spot) {
-        return Looked::Bad;
+        return None;
     }
-    Looked::At(judge_at(mode, row, page, spot))
+    Some(judge_at(mode, row, page, spot))
 }

@@ -29,34 +29,16 @@ fn write_sought(row: &[u8], radius: usize, n: u64, out: &mut [i32])
     numbering::inner::write_sought(of_radius(row, Radius(radius)), n, out);
 }
 
-// Zeros into the whole buffer.
-fn clear(out: &mut [i32])
-    ensures { out.new ≡ replicate (listed.length out.old) (pos 0) }
-{
-    let mut at = 0;
-    while at < out.len() {
-        out[at] = 0;
-        at += 1;
-    }
-}
-
 // The point of a place that is sound or mended, and zeros for the others.
 pub fn show(row: &[u8], seen: Seen, out: &mut [i32])
     requires { IsRow row.now × Shows row.now seen.judged × Handed row.now seen.judged seen.found
         × (listed.length out.old ≡ length_of row.now) }
     ensures { out.new ≡ shown row.now seen.judged }
 {
-    let judged = seen.judged;
-    match judged {
+    match seen.judged {
         Judged::Sound { radius, index } => write_found(row, radius, index, seen.found, out),
-        Judged::Mended {
-            radius,
-            index,
-            distance: _,
-        } => write_sought(row, radius, index, out),
-        Judged::Missing => clear(out),
-        Judged::Contested => clear(out),
-        Judged::Unreadable(_) => clear(out),
+        Judged::Mended { radius, index, .. } => write_sought(row, radius, index, out),
+        Judged::Missing | Judged::Contested | Judged::Unreadable(_) => out.fill(0),
     }
 }
 
@@ -65,15 +47,8 @@ pub fn answer_number(judged: Judged) -> usize
     ensures { (result ≡ answer_number judged) × (result < 5) }
 {
     match judged {
-        Judged::Sound {
-            radius: _,
-            index: _,
-        } => 0,
-        Judged::Mended {
-            radius: _,
-            index: _,
-            distance: _,
-        } => 1,
+        Judged::Sound { .. } => 0,
+        Judged::Mended { .. } => 1,
         Judged::Missing => 2,
         Judged::Contested => 3,
         Judged::Unreadable(_) => 4,
@@ -87,7 +62,7 @@ fn reason_number(reason: Reason) -> u64
     match reason {
         Reason::NoSuchRadius => 10,
         Reason::TooWide => 14,
-        Reason::PastEnd { distance: _ } => 6,
+        Reason::PastEnd { .. } => 6,
         Reason::EmptyShape => 15,
     }
 }
@@ -97,17 +72,8 @@ pub fn reason_or_distance(judged: Judged) -> u64
     ensures { result ≡ reason_or_distance judged }
 {
     match judged {
-        Judged::Sound {
-            radius: _,
-            index: _,
-        } => 0,
-        Judged::Mended {
-            radius: _,
-            index: _,
-            distance,
-        } => distance,
-        Judged::Missing => 0,
-        Judged::Contested => 0,
+        Judged::Mended { distance, .. } => distance,
         Judged::Unreadable(reason) => reason_number(reason),
+        Judged::Sound { .. } | Judged::Missing | Judged::Contested => 0,
     }
 }

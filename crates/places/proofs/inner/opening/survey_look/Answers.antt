@@ -1,7 +1,9 @@
 -- The mode is asked first, then the books, the table and the place are surveyed, and then the length of the page is
 -- looked at.
+use Rattle.std.proofs.lemmas.Result.{err_from_is_err_and}
+use Rattle.pairing.proofs.Surveys.{survey_good, survey_says_lem, first_passes}
+use Rattle.tables.specs.Table.{places_in, row_of}
 use Rattle.std.proofs.Common.{[], ◌∷◌, ◌++◌, sym, ◌∙◌}
-use Rattle.pairing.proofs.Surveys.{first_passes}
 use Rattle.tables.proofs.PlaceChecks.{book_passes, place_numbered, place_passes}
 use Rattle.tables.specs.BookNumbers.{place_checks}
 use Rattle.rules.specs.Modes.{mode_check}
@@ -14,17 +16,31 @@ with_page-requires c =
     let t = c.args.table.now in
     let books = c.args.books.0 in
     let book = c.args.book.0 in
-    let p = c.args.place in
-    told_to (place_checks t books book p) t books p c.survey_place.result (place_numbered t books book p)
-    (λ h. (book_passes t books book (place_passes t books book p h).0).0) c.survey_place.ensures
+    let place = c.args.place in
+    let found = survey_good (place_checks t books book place) t place c.survey_place.ensures (place_numbered t books book place) c.in_ok-survey_place.was in
+    told_to books found (λ h. (book_passes t books book (place_passes t books book place h).0).0)
 
 pub returns : goal.returns
 returns c =
     let t = c.args.table.now in
     let books = c.args.books.0 in
     let book = c.args.book.0 in
-    let p = c.args.place in
+    let place = c.args.place in
     let pg = c.args.page.now in
-    let behind = page_behind (place_checks t books book p) t books p pg (place_numbered t books book p) c.survey_place.ensures c.with_page.ensures in
-    first_passes (mode_check c.args.mode.0) (place_checks t books book p ++ (page_check t books pg ∷ [])) t p
-    (sym c.no_such_mode.ensures ∙ c.if-no_such_mode.false) behind
+    let found = survey_good (place_checks t books book place) t place c.survey_place.ensures (place_numbered t books book place) c.in_ok-survey_place.was in
+    first_passes (mode_check c.args.mode.0) (place_checks t books book place ++ (page_check t books pg ∷ [])) t place
+    (sym c.no_such_mode.ensures ∙ c.if-no_such_mode.false)
+    (page_behind books found pg c.with_page.ensures)
+
+pub returns-in_err-survey_place : goal.returns-in_err-survey_place
+returns-in_err-survey_place c =
+    let t = c.args.table.now in
+    let books = c.args.books.0 in
+    let book = c.args.book.0 in
+    let place = c.args.place in
+    let pg = c.args.page.now in
+    let p = err_from_is_err_and c.from_residual.result c.from_residual.ensures.1 in
+    rw (p.1, p.2)
+    (first_passes (mode_check c.args.mode.0) (place_checks t books book place ++ (page_check t books pg ∷ [])) t place
+    (sym c.no_such_mode.ensures ∙ c.if-no_such_mode.false)
+    (survey_says_lem (place_checks t books book place) t place c.survey_place.ensures c.in_err-survey_place.was (page_check t books pg ∷ []) (0 ∷ places_in t ∷ row_of t place ∷ [])))
