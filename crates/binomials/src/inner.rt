@@ -1,5 +1,7 @@
 // binomial(n,r) = n (n-1) .. (n-r+1) / r!. Up to six factors are multiplied, and their product is divided by r!. From
 // there on each step multiplies by one factor and divides by one. Every division is exact, and by a constant.
+//
+// The steps stand one by one and in no loop: tried, and slower, by half, since a loop divides by a variable.
 ghost use Rattle.std.specs.Prelude.{◌≡◌, suc, ◌*◌, ◌≤◌, ◌<◌};
 ghost use Rattle.counts.specs.Counts as counted;
 ghost use Rattle.binomials.specs.ProductForm.{falling};
@@ -123,8 +125,7 @@ fn fewer(n: u32, r: u32) -> u32
     requires { r ≤ n }
     ensures { (2 * result ≤ n) × (counted.binomial n result ≡ counted.binomial n r) }
 {
-    let others = n - r;
-    if others < r { others } else { r }
+    r.min(n - r)
 }
 
 // binomial(n,r), by the smaller number of factors.
