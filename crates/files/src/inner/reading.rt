@@ -1,6 +1,6 @@
 // A file is read until the room for it is full or nothing more comes. A missing file is empty, and so is one that
 // cannot be opened, which standard error tells.
-ghost use Rattle.std.specs.Prelude.{◌≡◌, ◌+◌, ◌≤◌, length, take, drop};
+ghost use Rattle.std.specs.Prelude.{◌≡◌, ◌≤◌, length, take};
 ghost use Rattle.std.specs.Io.KnownBytes.{Consumes};
 ghost use Rattle.tables.specs.Table.{table_room};
 
@@ -22,45 +22,13 @@ pub fn open<R: Files + Eprint>(rt: &R, path: &str) -> Option<R::File> {
     }
 }
 
-// Reads once into the block, from `filled` on, and answers how many bytes came: none at the end of the file, nor
-// where the read fails, which is told.
-fn read_more<F: Read>(
-    rt: &impl Eprint,
-    file: &mut F,
-    path: &str,
-    block: &mut [u8],
-    filled: usize,
-) -> usize
-    requires { filled ≤ length block.old }
-    ensures fits { filled + result ≤ length block.old }
-    ensures before { take filled block.new ≡ take filled block.old }
-    ensures came { Consumes (F.remaining file.old) (F.remaining file.new) (take result (drop filled block.new)) }
-{
-    let rest = &mut block[filled..];
-    match file.read(rest) {
-        Ok(more) => more,
-        Err(error) => {
-            tell(rt, path, error);
-            0
-        }
-    }
-}
-
-// Reads until the block is full or nothing more comes, however short each read is.
+// Reads until the block is full or nothing more comes, however short each read is. A read that fails is told.
 pub fn fill<F: Read>(rt: &impl Eprint, file: &mut F, path: &str, block: &mut [u8]) -> usize
     ensures fits { result ≤ length block.new }
     ensures part { result ≡ length (take result block.new) }
     ensures came { Consumes (F.remaining file.old) (F.remaining file.new) (take result block.new) }
 {
-    let mut filled = 0;
-    while filled < block.len() {
-        let more = read_more(rt, file, path, block, filled);
-        if more == 0 {
-            break;
-        }
-        filled += more;
-    }
-    filled
+    filling::fill(file, block, |error| tell(rt, path, error))
 }
 
 // The bytes of a file, at most as many as there is room for.

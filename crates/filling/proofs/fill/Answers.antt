@@ -1,7 +1,7 @@
--- `script::input::read_full` puts what comes next behind what came before.
+-- `filling::fill` puts what comes next behind what came before.
 use Rattle.std.proofs.Common.{arith}
 use Rattle.filling.proofs.Filled.{came_more}
-use Rattle.script.proofs.input.read_full.Goals as goal
+use Rattle.filling.proofs.fill.Goals as goal
 
 pub loop-filled-preserved : goal.loop-filled-preserved
 loop-filled-preserved g c =
