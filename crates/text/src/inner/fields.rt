@@ -65,12 +65,9 @@ pub fn write_text(text: &[u8], at: usize, out: &mut [u8]) -> usize
     requires { at + length text.now ≤ length out.old }
     ensures { Wrote out.old at text.now (length text.now) result out.new }
 {
-    let mut i = 0;
-    while i < text.len() {
-        out[at + i] = text[i];
-        i += 1;
-    }
-    at + i
+    let end = at + text.len();
+    out[at..end].copy_from_slice(text);
+    end
 }
 
 // A space and the word of an answer, by its number.
@@ -94,10 +91,8 @@ pub fn write_integers(xs: &[i32], at: usize, out: &mut [u8]) -> usize
     ensures { Wrote out.old at (spaced (map integer xs.now)) (12 * length xs.now) result out.new }
 {
     let mut end = at;
-    let mut i = 0;
-    while i < xs.len() {
-        end = write_integer(xs[i], end, out);
-        i += 1;
+    for x in xs {
+        end = write_integer(*x, end, out);
     }
     end
 }
@@ -108,10 +103,8 @@ pub fn write_numbers(ns: &[u64], at: usize, out: &mut [u8]) -> usize
     ensures { Wrote out.old at (spaced (map decimal ns.now)) (21 * length ns.now) result out.new }
 {
     let mut end = at;
-    let mut i = 0;
-    while i < ns.len() {
-        end = write_number(ns[i], end, out);
-        i += 1;
+    for n in ns {
+        end = write_number(*n, end, out);
     }
     end
 }

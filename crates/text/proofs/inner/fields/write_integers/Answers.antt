@@ -1,18 +1,13 @@
 -- `text::inner::fields::write_integers` writes integers, each with a space before it.
-use borrow.Author.Rules.{rules}
-use native.Mathlib.Omega.{arith}
-use lib.IntN.{pos}
-use lib.ListN.{get_or}
+use Rattle.std.proofs.Common.{rules, arith, pos, get_or}
 use Rattle.coordinates.proofs.Coordinates.{kept}
-use Rattle.buffers.proofs.Writing.{wrote_length}
 use Rattle.wording.specs.Text.{integer}
 use Rattle.text.proofs.Writing.{fields_next}
 use Rattle.text.proofs.inner.fields.write_integers.Goals as goal
 
-pub loop-i-preserved : goal.loop-i-preserved
-loop-i-preserved c =
-    let i = c.loop-i in
-    let z = get_or c.args.xs.now i.i (pos 0) in
-    let one = rw (kept z (search rules)) at c.write_integer-end.ensures in
-    let on = fields_next integer c.args.xs.now i.i (pos 0) (omega arith) i.invariant.2 one in
-    (omega arith, wrote_length on, on)
+pub loop-x-preserved : goal.loop-x-preserved
+loop-x-preserved c =
+    let xs = c.args.xs.now in
+    let i = c.loop-x in
+    let one = rw (kept (get_or xs i.x-index (pos 0)) (search rules)) at c.write_integer-end.ensures in
+    fields_next integer xs i.x-index (pos 0) (omega arith) i.invariant one

@@ -1,16 +1,8 @@
--- What each turn of the loop keeps in `text::inner::fields::write_integers`, and what falls with each turn.
-use Prim.Native.Nat.{◌-◌, ◌*◌, ◌≤◌}
-use mathlib.Core.List.{map}
-use mathlib.Core.Path.{◌≡◌}
-use lib.ListN.{length, take}
+-- What each turn of the loop keeps in `text::inner::fields::write_integers`.
+use Rattle.std.proofs.Common.{◌*◌, map, take}
 use Rattle.buffers.specs.Written.{Wrote}
 use Rattle.wording.specs.Text.{integer, spaced}
 use Rattle.text.proofs.inner.fields.write_integers.Given as goal
 
-abbrev pub invariant-loop-i : goal.invariant-loop-i
-invariant-loop-i l =
-    (l.i ≤ length l.xs) × (length l.out ≡ length l.initial.out)
-    × Wrote l.initial.out l.at (spaced (map integer (take l.i l.xs))) (12 * l.i) l.end l.out
-
-abbrev pub decreases-loop-i : goal.decreases-loop-i
-decreases-loop-i l = length l.xs - l.i
+abbrev pub invariant-loop-x : goal.invariant-loop-x
+invariant-loop-x l = Wrote l.initial.out l.at (spaced (map integer (take l.x-index l.xs))) (12 * l.x-index) l.end l.out
