@@ -1,11 +1,10 @@
-// The lines of the listing. 256 bytes of room are enough for each.
+// The lines of the listing. 256 bytes of room are enough for each. Each is lent a buffer and told where to begin, as
+// its contract says: `Wrote`.
 ghost use Rattle.std.specs.Prelude.{◌+◌, ◌≤◌, map, length};
 ghost use Rattle.buffers.specs.Written.{Wrote};
 ghost use Rattle.wording.specs.Text.{decimal, line, place_text, last_text, refused_text};
 
-use crate::inner::fields::{
-    write_byte, write_decimal, write_integers, write_number, write_numbers, write_text, write_word,
-};
+use crate::inner::fields::Line;
 
 // The line of a place: its number, the number of its answer, a third number that is the reason or the distance, and at
 // most 16 coordinates.
@@ -20,11 +19,13 @@ pub fn write_place_line(
     requires { (length coordinates.now ≤ 16) × (at + 256 ≤ length out.old) }
     ensures { Wrote out.old at (place_text place answer third coordinates.now) 256 result out.new }
 {
-    let mut end = write_decimal(place as u64, at, out);
-    end = write_word(answer, end, out);
-    end = write_number(third, end, out);
-    end = write_integers(coordinates, end, out);
-    write_byte(b'\n', end, out)
+    let mut line = Line { out, end: at };
+    line.write_decimal(place as u64);
+    line.write_word(answer);
+    line.write_number(third);
+    line.write_integers(coordinates);
+    line.write_byte(b'\n');
+    line.end
 }
 
 // A line of numbers, at most six, behind a word.
@@ -32,9 +33,11 @@ fn write_numbers_line(word: &[u8], numbers: &[u64], at: usize, out: &mut [u8]) -
     requires { (length word.now ≤ 10) × (length numbers.now ≤ 6) × (at + 256 ≤ length out.old) }
     ensures { Wrote out.old at (line word.now (map decimal numbers.now)) 256 result out.new }
 {
-    let mut end = write_text(word, at, out);
-    end = write_numbers(numbers, end, out);
-    write_byte(b'\n', end, out)
+    let mut line = Line { out, end: at };
+    line.write_text(word);
+    line.write_numbers(numbers);
+    line.write_byte(b'\n');
+    line.end
 }
 
 // The last line: at most six numbers behind the word.
