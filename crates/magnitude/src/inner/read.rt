@@ -31,15 +31,15 @@ fn pass(counts: &[u64], left: Left) -> Left
     requires { Passable counts.now left.k left.n }
     ensures { IsPassed counts.now left.k left.n result }
 {
-    let mut k = left.k - 1;
     let mut n = left.n;
-    let mut both = 2 * counts[k];
-    while both <= n {
+    for k in (0..left.k).rev() {
+        let both = 2 * counts[k];
+        if n < both {
+            return Left { k, n };
+        }
         n -= both;
-        k -= 1;
-        both = 2 * counts[k];
     }
-    Left { k, n }
+    unreachable!()
 }
 
 // The first coordinate, and what is left behind it, which is `behind` coordinates long; the row of counts is that of
@@ -88,14 +88,11 @@ fn write(left: Left, counts: &mut [u64], out: &mut [i32])
     ensures { out.new ≡ point_left left (listed.length out.old) }
 {
     let mut left = left;
-    let mut at = 0;
-    while at < out.len() {
+    for at in 0..out.len() {
         let step = next(counts, left, out.len() - at - 1);
-        let c = step.c;
-        out[at] = c;
+        out[at] = step.c;
         left = step.left;
         lower(counts, Radius(left.k));
-        at += 1;
     }
 }
 

@@ -1,5 +1,6 @@
 // Rows of counts: number j of the row of length l is N(l,j). No row is stored; the row of a length is made from that
-// of the length before it, or of the length after it, by equation 10 of the paper.
+// of the length before it, or of the length after it, by equation 10 of the paper. The radius is given each time and
+// kept with no row: as a point is written, the radius up to which a row is needed falls.
 ghost use Rattle.std.specs.Prelude.{◌≡◌, replicate};
 ghost use Rattle.magnitude.specs.Rows.{counts_room, CountsTo, IsStart, Raised, Lowered, Raisable, Lowerable, Countable};
 
@@ -20,29 +21,26 @@ pub fn raise(counts: &mut [u64], radius: Radius)
 {
     let mut last = counts[0];
     let mut before = last;
-    let mut at = 0;
-    while at < radius.0 {
-        at += 1;
-        let here = counts[at];
+    for count in &mut counts[1..=radius.0] {
+        let here = *count;
         last = last + here + before;
-        counts[at] = last;
+        *count = last;
         before = here;
     }
 }
 
-// The row of the length below, in the place of this one, up to a radius.
+// The row of the length below, in the place of this one, up to a radius. One function for both, with a closure for the
+// line that differs, would have to state what the closure may be called with, and be longer than the two.
 pub fn lower(counts: &mut [u64], radius: Radius)
     requires { Lowerable radius.0 counts.old }
     ensures { Lowered radius.0 counts.old counts.new }
 {
     let mut last = counts[0];
     let mut before = last;
-    let mut at = 0;
-    while at < radius.0 {
-        at += 1;
-        let here = counts[at];
+    for count in &mut counts[1..=radius.0] {
+        let here = *count;
         last = here - before - last;
-        counts[at] = last;
+        *count = last;
         before = here;
     }
 }
@@ -53,9 +51,7 @@ pub fn make(counts: &mut [u64], length: Length, radius: Radius)
     ensures { CountsTo length.0 radius.0 counts.new }
 {
     start(counts);
-    let mut l = 0;
-    while l < length.0 {
+    for _ in 0..length.0 {
         raise(counts, radius);
-        l += 1;
     }
 }

@@ -45,10 +45,8 @@ pub fn index_of(radius: Radius, x: &[i32]) -> u64
 {
     let mut counts = [0u64; 33];
     start(&mut counts);
-    let mut at = x.len();
     let mut tail = Tail { sum: 0, index: 0 };
-    while 0 < at {
-        at -= 1;
+    for at in (0..x.len()).rev() {
         tail = with_coordinate(tail, x, at, &mut counts, radius);
     }
     tail.index

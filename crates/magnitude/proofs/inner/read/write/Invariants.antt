@@ -1,5 +1,5 @@
--- What each turn of the loop keeps in `magnitude::inner::read::write`, and what falls with each turn.
-use Prim.Native.Nat.{◌-◌, ◌≤◌}
+-- What each turn of the loop keeps in `magnitude::inner::read::write`.
+use Prim.Native.Nat.{◌-◌}
 use mathlib.Core.Path.{◌≡◌}
 use mathlib.Core.List.{◌++◌}
 use lib.ListN.{length, take}
@@ -11,9 +11,5 @@ use Rattle.magnitude.proofs.inner.read.write.Given as goal
 -- coordinate less
 abbrev pub invariant-loop-at : goal.invariant-loop-at
 invariant-loop-at l =
-    (l.at ≤ length l.out) × (length l.out ≡ length l.initial.out) × (length l.counts ≡ length l.initial.counts)
-    × Writable l.left (length l.out - l.at) × CountsTo (length l.out - l.at - 1) l.left.k l.counts
+    Writable l.left (length l.out - l.at) × CountsTo (length l.out - l.at - 1) l.left.k l.counts
     × (point_left l.initial.left (length l.initial.out) ≡ take l.at l.out ++ point_left l.left (length l.out - l.at))
-
-abbrev pub decreases-loop-at : goal.decreases-loop-at
-decreases-loop-at l = length l.initial.out - l.at

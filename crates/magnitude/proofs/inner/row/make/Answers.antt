@@ -9,10 +9,10 @@ pub raise-requires : goal.raise-requires
 raise-requires c =
     let room = c.requires.1.room in
     let limited = c.requires.1.limited in
-    raisable c.loop-l.l c.args.radius.0 c.loop-l.counts (omega (arith, c.loop-l.invariant.1, room)) c.loop-l.invariant.2
+    raisable c.loop.counter c.args.radius.0 c.loop.counts (omega (arith, c.loop.invariant.0, room)) c.loop.invariant.1
     (record { room = room; limited = λ m j h. limited m j (omega arith) })
 
-pub loop-l-preserved : goal.loop-l-preserved
-loop-l-preserved c =
-    rw (add-one c.loop-l.l)
-    (omega arith, search rules, raised_counts c.loop-l.l c.args.radius.0 c.loop-l.counts _ c.loop-l.invariant.2 c.raise.ensures)
+pub loop-preserved : goal.loop-preserved
+loop-preserved c =
+    rw (add-one c.loop.counter)
+    (search rules, raised_counts c.loop.counter c.args.radius.0 c.loop.counts _ c.loop.invariant.1 c.raise.ensures)

@@ -1,8 +1,7 @@
 -- `magnitude::inner::weigh::index_of` gathers the whole point: at each turn what stands from `at` on.
 use borrow.Author.Rules.{rules}
-use native.Mathlib.Omega.{arith}
 use Rattle.magnitude.proofs.Tails.{gathered_none}
 use Rattle.magnitude.proofs.inner.weigh.index_of.Goals as goal
 
 pub loop-at-init : goal.loop-at-init
-loop-at-init c = (omega arith, gathered_none c.args.radius.0 c.args.x.now c.start.new.counts (search rules) c.start.ensures)
+loop-at-init c = gathered_none c.args.radius.0 c.args.x.now c.start.new.counts (search rules) c.start.ensures
