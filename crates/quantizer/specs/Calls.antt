@@ -1,8 +1,9 @@
 -- What the call quantize says, and what it leaves in the lent record: docs/RULES.md, "Quantizing into a record",
 -- "Books", "Refusal numbers" and "Order of checks". t is the table's bytes, `books` the number of books, `book` the
 -- book, p the place, xs the coefficients; all of them any. `row` is the bytes of the place's row.
-use Rattle.std.specs.Prelude.{ℕ, List, [], ◌∷◌, ◌++◌, Float, length}
-use Rattle.answers.specs.Refusals.{meaning}
+use Rattle.std.specs.Prelude.{ℕ, List, [], ◌∷◌, ◌++◌, Float, length, Result}
+use Rattle.answers.specs.declared.Refusal.{Refusal}
+use Rattle.answers.specs.Refusals.{verdict_meaning}
 use Rattle.answers.specs.Checks.{Check, length_check, first_of, leaves}
 use Rattle.tables.specs.Row.{length_of}
 use Rattle.tables.specs.BookNumbers.{place_checks}
@@ -10,8 +11,6 @@ use Rattle.tables.specs.Table.{row_of, row_for}
 use Rattle.records.specs.Record.{record_check, record_of}
 use Rattle.coefficients.specs.Coefficients.{usable_checks}
 use Rattle.coding.specs.Coded.{radius_number_for, codeword_for}
-use Rattle.quantizer.specs.declared.Quantized.{Quantized}
-use Rattle.quantizer.specs.declared.Quantized.TheVariants as quantized
 
 -- Quantize: 17, 7, 8, 4, 11; first the last two, of the row: vector not l, record not 8, b being the length of the lent
 -- record; the coefficients
@@ -26,9 +25,8 @@ abbrev pub record_for : List ℕ → ℕ → ℕ → List Float → List ℕ
 record_for t book p xs = record_of book p (row_of t p) (radius_number_for (row_for t p) xs) (codeword_for (row_for t p) xs)
 
 -- what the call answers: that the record is written, or a refusal
-abbrev pub quantize_meaning : Quantized → List ℕ
-quantize_meaning quantized.Written = 0 ∷ []
-quantize_meaning (quantized.Refused refusal) = meaning refusal
+abbrev pub quantize_meaning : Result (Unit {0}) Refusal → List ℕ
+quantize_meaning = verdict_meaning
 
 -- what it is to say, and what it leaves in a record that held `held`
 abbrev pub quantize_says : List ℕ → ℕ → ℕ → ℕ → List Float → List ℕ → List ℕ

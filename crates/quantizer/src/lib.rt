@@ -10,20 +10,13 @@ ghost use Rattle.records.specs.Naming.{InField};
 ghost use Rattle.coding.specs.Coded.{record_named};
 ghost use Rattle.quantizer.specs.Calls.{quantize_rest, quantize_meaning, quantize_says, quantize_leaves};
 
-use answers::{Refusal, Verdict};
+use answers::Refusal;
 use coding::inner::write_record;
 use coefficients::inner::coefficients::check_coefficients;
 use pairing::inner::books::survey_place;
-use pairing::inner::survey::Surveyed;
 use records::inner::{Named, wrong_record};
 use rows::inner::row::{length, row_at};
 use tables::{Book, Books};
-
-#[derive(Clone, Copy)]
-pub enum Quantized {
-    Written,
-    Refused(Refusal),
-}
 
 // The call quantize: the record is written once every check has passed.
 pub fn quantize(
@@ -33,26 +26,27 @@ pub fn quantize(
     place: usize,
     coefficients: &[f32],
     out: &mut [u8],
-) -> Quantized
+) -> Result<(), Refusal>
     ensures { (quantize_meaning result ≡ quantize_says table.now books.0 book.0 place coefficients.now out.old)
         × (out.new ≡ quantize_leaves table.now books.0 book.0 place coefficients.now out.old) }
 {
-    match survey_place(table, books, book, place) {
-        Surveyed::Good { places: _, row } => {
-            let named = Named {
-                book: book.0,
-                place,
-                row,
-            };
-            quantize_at(row_at(table, row), named, coefficients, out)
-        }
-        Surveyed::Bad(refusal) => Quantized::Refused(refusal),
-    }
+    let row = survey_place(table, books, book, place)?.row;
+    let named = Named {
+        book: book.0,
+        place,
+        row,
+    };
+    quantize_at(row_at(table, row), named, coefficients, out)
 }
 
 // What quantize does in this row, with the book, the place and the row's number that go into the record: the checks 4,
 // 4 and 11, and the work.
-fn quantize_at(row: &[u8], named: Named, coefficients: &[f32], out: &mut [u8]) -> Quantized
+fn quantize_at(
+    row: &[u8],
+    named: Named,
+    coefficients: &[f32],
+    out: &mut [u8],
+) -> Result<(), Refusal>
     requires { IsRow row.now × InField named }
     ensures { (quantize_meaning result
         ≡ first_of (quantize_rest row.now coefficients.now (listed.length out.old)) (0 ∷ []))
@@ -61,16 +55,12 @@ fn quantize_at(row: &[u8], named: Named, coefficients: &[f32], out: &mut [u8]) -
         (record_named named row.now coefficients.now) out.old) }
 {
     if coefficients.len() != length(row).0 {
-        return Quantized::Refused(Refusal::BufferLength);
+        return Err(Refusal::BufferLength);
     }
     if wrong_record(out.len()) {
-        return Quantized::Refused(Refusal::BufferLength);
+        return Err(Refusal::BufferLength);
     }
-    match check_coefficients(coefficients) {
-        Verdict::Passed => {
-            write_record(row, named, coefficients, out);
-            Quantized::Written
-        }
-        Verdict::Refused(refusal) => Quantized::Refused(refusal),
-    }
+    check_coefficients(coefficients)?;
+    write_record(row, named, coefficients, out);
+    Ok(())
 }
