@@ -18,50 +18,22 @@ use inner::reading::{coefficient_at, read_at};
 use inner::taking::{collect_records, names_other_row, parts, place_named, take_record};
 use inner::tallying::tally_page;
 use layout::Layout;
-use pairing::inner::survey::Surveyed;
 use places::inner::opening::{survey_look, survey_page, survey_whole};
 use records::inner::Named;
 use rows::inner::row::row_at;
 use rules::{Mode, Reason};
 use tables::{Book, Books};
 
+// What a place shows. A sound or mended one carries a value: that of the coordinate that coefficient is asked for, and
+// nothing for read, which writes the point. A mended one has its distance, and an unreadable one its reason, past the
+// end with its distance.
 #[derive(Clone, Copy)]
-pub enum Arrival {
-    Taken,
-    Refused(Refusal),
-}
-
-// What a place shows; a mended one has its distance, and an unreadable one its reason, past the end with its distance.
-#[derive(Clone, Copy)]
-pub enum Answer {
-    Sound,
-    Mended { distance: u64 },
+pub enum Answer<T> {
+    Sound(T),
+    Mended { value: T, distance: u64 },
     Missing,
     Contested,
     Unreadable(Reason),
-}
-
-#[derive(Clone, Copy)]
-pub enum Reading {
-    Answered(Answer),
-    Refused(Refusal),
-}
-
-// What one coefficient shows: sound and mended have its value, mended the distance of its place too, and unreadable
-// the reason.
-#[derive(Clone, Copy)]
-pub enum Value {
-    Sound(f32),
-    Mended { value: f32, distance: u64 },
-    Missing,
-    Contested,
-    Unreadable(Reason),
-}
-
-#[derive(Clone, Copy)]
-pub enum Valued {
-    Answered(Value),
-    Refused(Refusal),
 }
 
 // How many places show each answer.
@@ -74,26 +46,22 @@ pub struct Counts {
     pub unreadable: usize,
 }
 
-#[derive(Clone, Copy)]
-pub enum Tallied {
-    Counted(Counts),
-    Refused(Refusal),
-}
-
 // The call take: a record into the page. It changes the cell of the record's place in its book and no other byte.
-pub fn take(table: &[u8], books: Books, layout: Layout, page: &mut [u8], bytes: &[u8]) -> Arrival
+pub fn take(
+    table: &[u8],
+    books: Books,
+    layout: Layout,
+    page: &mut [u8],
+    bytes: &[u8],
+) -> Result<(), Refusal>
     ensures { (take_meaning result
         ≡ take_says table.now books.0 (as_cells layout table.now books.0 page.old) bytes.now)
         × (page.new ≡ as_kept layout table.now books.0
         (take_leaves table.now books.0 (as_cells layout table.now books.0 page.old) bytes.now)) }
 {
-    match survey_page(table, books, page, place_named(bytes)) {
-        Surveyed::Good { places, row } => {
-            let foreign = names_other_row(bytes, row);
-            take_record(table, places, books, foreign, layout, page, bytes)
-        }
-        Surveyed::Bad(refusal) => Arrival::Refused(refusal),
-    }
+    let surveyed = survey_page(table, books, page, place_named(bytes))?;
+    let foreign = names_other_row(bytes, surveyed.row);
+    take_record(table, surveyed.places, books, foreign, layout, page, bytes)
 }
 
 // The call collect: a run of bytes, eight by eight and a shorter last part too, each taken in turn; how many takes
@@ -105,10 +73,8 @@ pub fn collect(table: &[u8], books: Books, layout: Layout, page: &mut [u8], byte
         (collected table.now books.0 (as_cells layout table.now books.0 page.old) bytes.now).page) }
 {
     match survey_page(table, books, page, 0) {
-        Surveyed::Good { places, row: _ } => collect_records(
-            table, places, books, layout, page, bytes,
-        ),
-        Surveyed::Bad(_) => parts(bytes.len()),
+        Ok(surveyed) => collect_records(table, surveyed.places, books, layout, page, bytes),
+        Err(_) => parts(bytes.len()),
     }
 }
 
@@ -122,24 +88,21 @@ pub fn read(
     page: &[u8],
     place: usize,
     out: &mut [i32],
-) -> Reading
+) -> Result<Answer<()>, Refusal>
     ensures { (read_meaning result ≡ read_says mode.0 table.now books.0 book.0
         (as_cells layout table.now books.0 page.now) place out.old)
         × (out.new ≡ read_leaves mode.0 table.now books.0 book.0
         (as_cells layout table.now books.0 page.now) place out.old) }
 {
-    match survey_look(mode, table, books, book, page, place) {
-        Surveyed::Good { places, row } => {
-            let named = Named {
-                book: book.0,
-                place,
-                row,
-            };
-            let spot = locate(layout, places, books.0, named);
-            read_at(mode, row_at(table, row), page, spot, out)
-        }
-        Surveyed::Bad(refusal) => Reading::Refused(refusal),
-    }
+    let surveyed = survey_look(mode, table, books, book, page, place)?;
+    let row = surveyed.row;
+    let named = Named {
+        book: book.0,
+        place,
+        row,
+    };
+    let spot = locate(layout, surveyed.places, books.0, named);
+    read_at(mode, row_at(table, row), page, spot, out)
 }
 
 // The call coefficient: one coordinate of a place of a book, as its value.
@@ -152,24 +115,21 @@ pub fn coefficient(
     page: &[u8],
     place: usize,
     coordinate: usize,
-) -> Valued
+) -> Result<Answer<f32>, Refusal>
     ensures { (coefficient_meaning result ≡ coefficient_says mode.0 table.now books.0 book.0
         (as_cells layout table.now books.0 page.now) place coordinate)
         × (coefficient_values result ≡ coefficient_carries mode.0 table.now books.0 book.0
         (as_cells layout table.now books.0 page.now) place coordinate) }
 {
-    match survey_look(mode, table, books, book, page, place) {
-        Surveyed::Good { places, row } => {
-            let named = Named {
-                book: book.0,
-                place,
-                row,
-            };
-            let spot = locate(layout, places, books.0, named);
-            coefficient_at(mode, row_at(table, row), page, spot, coordinate)
-        }
-        Surveyed::Bad(refusal) => Valued::Refused(refusal),
-    }
+    let surveyed = survey_look(mode, table, books, book, page, place)?;
+    let row = surveyed.row;
+    let named = Named {
+        book: book.0,
+        place,
+        row,
+    };
+    let spot = locate(layout, surveyed.places, books.0, named);
+    coefficient_at(mode, row_at(table, row), page, spot, coordinate)
 }
 
 // The call tally: the five counts of a book.
@@ -180,14 +140,19 @@ pub fn tally(
     book: Book,
     layout: Layout,
     page: &[u8],
-) -> Tallied
+) -> Result<Counts, Refusal>
     ensures { tally_meaning result
         ≡ tally_says mode.0 table.now books.0 book.0 (as_cells layout table.now books.0 page.now) }
 {
-    match survey_whole(mode, table, books, book, page) {
-        Surveyed::Good { places, row } => tally_page(
-            mode, table, places, books, book, row, layout, page,
-        ),
-        Surveyed::Bad(refusal) => Tallied::Refused(refusal),
-    }
+    let surveyed = survey_whole(mode, table, books, book, page)?;
+    tally_page(
+        mode,
+        table,
+        surveyed.places,
+        books,
+        book,
+        surveyed.row,
+        layout,
+        page,
+    )
 }

@@ -63,8 +63,8 @@ value_in row q i = over256 (get_or q i (pos 0) *ℤ pos (step_of row))
 abbrev pub value_at : ℕ → List ℕ → List ℕ → ℕ → ℕ → ℕ → Float
 value_at mode t pg book p i = value_in (row_for t p) (point_at mode t pg book p) i
 
--- sound and mended carry a value; the other three none
-abbrev pub carried : Judged → Float → List Float
+-- sound and mended carry what is asked of them; the other three nothing
+abbrev pub carried : {A : Type 0} → Judged → A → List A
 carried (judged.Sound k n) v = v ∷ []
 carried (judged.Mended k n d) v = v ∷ []
 carried judged.Missing v = []

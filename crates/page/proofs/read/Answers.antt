@@ -1,6 +1,7 @@
 -- A refusal of the checks of the mode, the books, the table, the book, the place and the page leaves the buffer as it
 -- was, or else what is said and left in the row of the place.
 use Rattle.std.proofs.Common.{ℕ, List, ℤ, length}
+use Rattle.std.proofs.lemmas.Result.{err_from_is_err_and}
 use Rattle.answers.specs.Checks.{Check}
 use Rattle.pairing.proofs.Surveys.{survey_says_lem, survey_leaves, number_in, row_surveyed, place_says, place_leaves}
 use Rattle.places.proofs.Opening.{look_says, look_found, look_locatable, look_spot_in, look_cell}
@@ -17,7 +18,7 @@ pub locate-spot-requires : goal.locate-spot-requires
 locate-spot-requires c =
     let a = c.args in
     let t = a.table.now in
-    let found = look_found a.layout a.mode.0 t a.books.0 a.book.0 a.page.now a.place c.survey_look.ensures c.in-Good.is in
+    let found = look_found a.layout a.mode.0 t a.books.0 a.book.0 a.page.now a.place c.survey_look.ensures c.in_ok-surveyed.was in
     look_locatable a.layout a.mode.0 t a.books.0 a.book.0 a.page.now a.place found
 
 pub row_at-requires : goal.row_at-requires
@@ -25,7 +26,7 @@ row_at-requires c =
     let a = c.args in
     let t = a.table.now in
     let pg = as_cells a.layout t a.books.0 a.page.now in
-    let found = look_found a.layout a.mode.0 t a.books.0 a.book.0 a.page.now a.place c.survey_look.ensures c.in-Good.is in
+    let found = look_found a.layout a.mode.0 t a.books.0 a.book.0 a.page.now a.place c.survey_look.ensures c.in_ok-surveyed.was in
     number_in found (look_place a.mode.0 t a.books.0 a.book.0 pg a.place found.passes)
 
 pub read_at-requires : goal.read_at-requires
@@ -33,20 +34,20 @@ read_at-requires c =
     let a = c.args in
     let t = a.table.now in
     let pg = as_cells a.layout t a.books.0 a.page.now in
-    let found = look_found a.layout a.mode.0 t a.books.0 a.book.0 a.page.now a.place c.survey_look.ensures c.in-Good.is in (
+    let found = look_found a.layout a.mode.0 t a.books.0 a.book.0 a.page.now a.place c.survey_look.ensures c.in_ok-surveyed.was in (
       row_surveyed found (look_place a.mode.0 t a.books.0 a.book.0 pg a.place found.passes) c.row_at.ensures,
       look_spot_in a.layout a.mode.0 t a.books.0 a.book.0 a.page.now a.place found c.locate-spot.ensures,
     )
 
-pub returns-in-Good : goal.returns-in-Good
-returns-in-Good c =
+pub returns : goal.returns
+returns c =
     let a = c.args in
     let t = a.table.now in
     let pg = as_cells a.layout t a.books.0 a.page.now in
     let book = a.book.0 in
     let p = a.place in
     let held = a.out.now in
-    let found = look_found a.layout a.mode.0 t a.books.0 book a.page.now p c.survey_look.ensures c.in-Good.is in
+    let found = look_found a.layout a.mode.0 t a.books.0 book a.page.now p c.survey_look.ensures c.in_ok-surveyed.was in
     let placed = look_place a.mode.0 t a.books.0 book pg p found.passes in
     let rest : ℕ → List ℕ → List Check = λ r row. read_rest row book p r (cell_for t pg book p) (length held) in
     let tells : ℕ → List ℕ → List ℕ = λ r row. rules.told (judge a.mode.0 row (cell_for t pg book p)) in
@@ -58,8 +59,8 @@ returns-in-Good c =
       place_leaves found placed lent rest shows held (rw (located.is_named, same) at c.read_at.ensures.leaves),
     )
 
-pub returns-in-Bad : goal.returns-in-Bad
-returns-in-Bad c =
+pub returns-in_err-surveyed : goal.returns-in_err-surveyed
+returns-in_err-surveyed c =
     let a = c.args in
     let t = a.table.now in
     let pg = as_cells a.layout t a.books.0 a.page.now in
@@ -67,8 +68,10 @@ returns-in-Bad c =
     let p = a.place in
     let checks = look_checks a.mode.0 t a.books.0 book pg p in
     let says = look_says a.layout a.mode.0 t a.books.0 book a.page.now p c.survey_look.ensures in
-    let told = c.in-Bad.is in
-    let rest = read_rest (row_for t p) book p (row_of t p) (cell_for t pg book p) (length a.out.now) in (
+    let told = c.in_err-surveyed.was in
+    let rest = read_rest (row_for t p) book p (row_of t p) (cell_for t pg book p) (length a.out.now) in
+    let e = err_from_is_err_and c.from_residual.result c.from_residual.ensures.1 in
+    rw (e.1, e.2) (
       survey_says_lem checks t p says told rest (rules.told (judge_at a.mode.0 t pg book p)),
       survey_leaves checks t p says told rest (point_at a.mode.0 t pg book p) a.out.now,
     )

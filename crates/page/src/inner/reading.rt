@@ -9,32 +9,25 @@ ghost use Rattle.rules.specs.Reading.{told, carried, carried_by, value_in};
 ghost use Rattle.judging.specs.Seen.{Handed};
 ghost use Rattle.cells.specs.Spots.{SpotIn, cell_there};
 ghost use Rattle.page.specs.Bounds.{read_there, coefficient_there};
-ghost use Rattle.page.specs.Meanings.{answer_meaning, read_meaning, value_meaning, values_in, coefficient_meaning, coefficient_values};
+ghost use Rattle.page.specs.Meanings.{answer_meaning, read_meaning, values_in, coefficient_meaning, coefficient_values};
 
-use crate::{Answer, Reading, Value, Valued};
+use crate::Answer;
 use answers::Refusal;
 use cells::inner::spot::Spot;
 use floats::inner::over_256;
 use judging::inner::Seen;
-use places::inner::looking::{Looked, look};
+use places::inner::looking::look;
 use places::inner::showing::show;
 use rows::inner::row::{length, step};
 use rules::{Judged, Mode};
 
-// The answer that a caller sees.
-fn answer(judged: Judged) -> Answer
-    ensures { answer_meaning result ≡ told judged }
+// The answer that a caller sees; a sound or mended place carries the value.
+fn answer<T: Copy>(judged: Judged, value: T) -> Answer<T>
+    ensures { (answer_meaning result ≡ told judged) × (values_in result ≡ carried judged value) }
 {
     match judged {
-        Judged::Sound {
-            radius: _,
-            index: _,
-        } => Answer::Sound,
-        Judged::Mended {
-            radius: _,
-            index: _,
-            distance,
-        } => Answer::Mended { distance },
+        Judged::Sound { .. } => Answer::Sound(value),
+        Judged::Mended { distance, .. } => Answer::Mended { value, distance },
         Judged::Missing => Answer::Missing,
         Judged::Contested => Answer::Contested,
         Judged::Unreadable(reason) => Answer::Unreadable(reason),
@@ -42,7 +35,13 @@ fn answer(judged: Judged) -> Answer
 }
 
 // What read does at the cell of a place in this row: the checks 4 and 12, and the work.
-pub fn read_at(mode: Mode, row: &[u8], page: &[u8], spot: Spot, out: &mut [i32]) -> Reading
+pub fn read_at(
+    mode: Mode,
+    row: &[u8],
+    page: &[u8],
+    spot: Spot,
+    out: &mut [i32],
+) -> Result<Answer<()>, Refusal>
     requires { IsRow row.now × SpotIn page.now spot }
     ensures says { read_meaning result
         ≡ first_of (read_there row.now spot.named (cell_there page.now spot) (listed.length out.old))
@@ -53,16 +52,11 @@ pub fn read_at(mode: Mode, row: &[u8], page: &[u8], spot: Spot, out: &mut [i32])
         out.old }
 {
     if out.len() != length(row).0 {
-        return Reading::Refused(Refusal::BufferLength);
+        return Err(Refusal::BufferLength);
     }
-    match look(mode, row, page, spot) {
-        Looked::Bad => Reading::Refused(Refusal::BadCell),
-        Looked::At(seen) => {
-            show(row, seen, out);
-            let judged = seen.judged;
-            Reading::Answered(answer(judged))
-        }
-    }
+    let seen = look(mode, row, page, spot).ok_or(Refusal::BadCell)?;
+    show(row, seen, out);
+    Ok(answer(seen.judged, ()))
 }
 
 // A coordinate times the step, over 256. The product stays below 2^24.
@@ -86,28 +80,14 @@ fn value_of(row: &[u8], seen: Seen, coordinate: usize) -> f32
     scaled(c, step(row))
 }
 
-// The answer of a coefficient; v is its value where the place is sound or mended.
-fn valued(judged: Judged, v: f32) -> Value
-    ensures { (value_meaning result ≡ told judged) × (values_in result ≡ carried judged v) }
-{
-    match judged {
-        Judged::Sound {
-            radius: _,
-            index: _,
-        } => Value::Sound(v),
-        Judged::Mended {
-            radius: _,
-            index: _,
-            distance,
-        } => Value::Mended { value: v, distance },
-        Judged::Missing => Value::Missing,
-        Judged::Contested => Value::Contested,
-        Judged::Unreadable(reason) => Value::Unreadable(reason),
-    }
-}
-
 // What coefficient does at the cell of a place in this row: the checks 13 and 12, and the work.
-pub fn coefficient_at(mode: Mode, row: &[u8], page: &[u8], spot: Spot, coordinate: usize) -> Valued
+pub fn coefficient_at(
+    mode: Mode,
+    row: &[u8],
+    page: &[u8],
+    spot: Spot,
+    coordinate: usize,
+) -> Result<Answer<f32>, Refusal>
     requires { IsRow row.now × SpotIn page.now spot }
     ensures says { coefficient_meaning result
         ≡ first_of (coefficient_there row.now spot.named (cell_there page.now spot) coordinate)
@@ -117,13 +97,8 @@ pub fn coefficient_at(mode: Mode, row: &[u8], page: &[u8], spot: Spot, coordinat
         (carried_by row.now (judge mode.0 row.now (cell_there page.now spot)) coordinate) [] }
 {
     if length(row).0 <= coordinate {
-        return Valued::Refused(Refusal::NoSuchCoordinate);
+        return Err(Refusal::NoSuchCoordinate);
     }
-    match look(mode, row, page, spot) {
-        Looked::Bad => Valued::Refused(Refusal::BadCell),
-        Looked::At(seen) => {
-            let judged = seen.judged;
-            Valued::Answered(valued(judged, value_of(row, seen, coordinate)))
-        }
-    }
+    let seen = look(mode, row, page, spot).ok_or(Refusal::BadCell)?;
+    Ok(answer(seen.judged, value_of(row, seen, coordinate)))
 }

@@ -8,7 +8,6 @@ ghost use Rattle.tables.specs.Way.{Starts};
 ghost use Rattle.page.specs.Bounds.{Ready, Takes, place_named, other_named, Tells};
 ghost use Rattle.page.specs.Meanings.{take_meaning};
 
-use crate::Arrival;
 use answers::Refusal;
 use cells::inner::rule::arrive;
 use cells::inner::spot::locate;
@@ -47,7 +46,7 @@ pub fn take_record(
     layout: Layout,
     page: &mut [u8],
     bytes: &[u8],
-) -> Arrival
+) -> Result<(), Refusal>
     requires { Ready table.now books.0 (as_cells layout table.now books.0 page.old) places × Tells table.now bytes.now foreign }
     ensures { (take_meaning result
         ≡ first_of (take_rest table.now books.0 (as_cells layout table.now books.0 page.old) bytes.now) (0 ∷ []))
@@ -57,23 +56,23 @@ pub fn take_record(
         (as_cells layout table.now books.0 page.old)) }
 {
     if wrong_record(bytes.len()) {
-        return Arrival::Refused(Refusal::BufferLength);
+        return Err(Refusal::BufferLength);
     }
     let named = named_in(bytes);
     if books.0 <= named.book {
-        return Arrival::Refused(Refusal::NoSuchPlace);
+        return Err(Refusal::NoSuchPlace);
     }
     if places <= named.place {
-        return Arrival::Refused(Refusal::NoSuchPlace);
+        return Err(Refusal::NoSuchPlace);
     }
     if foreign {
-        return Arrival::Refused(Refusal::ForeignRow);
+        return Err(Refusal::ForeignRow);
     }
     let spot = locate(layout, places, books.0, named);
     if arrive(page, spot, bytes) {
-        return Arrival::Refused(Refusal::BadCell);
+        return Err(Refusal::BadCell);
     }
-    Arrival::Taken
+    Ok(())
 }
 
 // Whether a record's row is not that of its place, by where the rows begin; what is no record of a place in the table
@@ -112,8 +111,8 @@ fn refusals_of(
 {
     let foreign = is_foreign_part(table, places, starts, bytes);
     match take_record(table, places, books, foreign, layout, page, bytes) {
-        Arrival::Taken => 0,
-        Arrival::Refused(_) => 1,
+        Ok(()) => 0,
+        Err(_) => 1,
     }
 }
 

@@ -7,12 +7,12 @@ ghost use Rattle.tables.specs.Table.{row_of};
 ghost use Rattle.page.specs.Bounds.{Ready};
 ghost use Rattle.page.specs.Meanings.{tally_meaning};
 
-use crate::{Counts, Tallied};
+use crate::Counts;
 use answers::Refusal;
 use cells::inner::spot::locate;
 use layout::Layout;
 use pairing::inner::walking::{walk_from, walked};
-use places::inner::looking::{Looked, look};
+use places::inner::looking::look;
 use places::inner::showing::answer_number;
 use records::inner::Named;
 use rows::inner::row::row_at;
@@ -30,7 +30,7 @@ pub fn tally_page(
     row: usize,
     layout: Layout,
     page: &[u8],
-) -> Tallied
+) -> Result<Counts, Refusal>
     requires { Ready table.now books.0 (as_cells layout table.now books.0 page.now) places × (book.0 < books.0)
         × (row ≡ row_of table.now 0) }
     ensures { tally_meaning result
@@ -39,8 +39,7 @@ pub fn tally_page(
 {
     let mut counts = [0usize; 5];
     let mut walk = walk_from(table, row, 0);
-    let mut place = 0;
-    while place < places {
+    for place in 0..places {
         walk = walked(table, walk, place);
         let row = walk.row;
         let named = Named {
@@ -49,17 +48,10 @@ pub fn tally_page(
             row,
         };
         let spot = locate(layout, places, books.0, named);
-        match look(mode, row_at(table, row), page, spot) {
-            Looked::Bad => return Tallied::Refused(Refusal::BadCellAt { place }),
-            Looked::At(seen) => {
-                let judged = seen.judged;
-                let n = answer_number(judged);
-                counts[n] += 1;
-            }
-        }
-        place += 1;
+        let seen = look(mode, row_at(table, row), page, spot).ok_or(Refusal::BadCellAt { place })?;
+        counts[answer_number(seen.judged)] += 1;
     }
-    Tallied::Counted(Counts {
+    Ok(Counts {
         sound: counts[0],
         mended: counts[1],
         missing: counts[2],

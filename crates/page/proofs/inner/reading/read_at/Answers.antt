@@ -7,6 +7,6 @@ use Rattle.page.proofs.inner.reading.read_at.Goals as goal
 pub show-requires : goal.show-requires
 show-requires c =
     let row = c.args.row.now in
-    let sees = c.in-At.ensures.1 in
+    let sees = (rw c.in_ok-seen.ensures.ok_part at c.look.ensures).1 in
     let cell = cell_there c.args.page.now c.args.spot in
     (c.requires.0, seen_shows c.args.mode.0 row cell c.requires.0 sees, sees.handed, c.if-out-length.false ∙ c.length.ensures)

@@ -4,20 +4,20 @@ use Rattle.rules.specs.Layouts.{as_cells}
 use Rattle.page.proofs.Collecting.{leaves_all, counts_0, counts_1}
 use Rattle.page.proofs.inner.taking.refusals_of.Goals as goal
 
-pub returns-in-Taken : goal.returns-in-Taken
-returns-in-Taken c =
+pub returns-in-Ok : goal.returns-in-Ok
+returns-in-Ok c =
     let t = c.args.table.now in
     let books = c.args.books.0 in
     let pg = as_cells c.args.layout t books c.args.page.now in
     let x = c.args.bytes.now in
-    let did = c.in-Taken.ensures in
+    let did = c.in-Ok.ensures in
     (counts_0 t books pg c.requires.ready.passes x did.0, leaves_all t books pg c.requires.ready.passes x did.1, omega arith)
 
-pub returns-in-Refused : goal.returns-in-Refused
-returns-in-Refused c =
+pub returns-in-Err : goal.returns-in-Err
+returns-in-Err c =
     let t = c.args.table.now in
     let books = c.args.books.0 in
     let pg = as_cells c.args.layout t books c.args.page.now in
     let x = c.args.bytes.now in
-    let did = c.in-Refused.ensures in
-    (counts_1 t books pg c.requires.ready.passes x c.in-Refused.field-0 did.0, leaves_all t books pg c.requires.ready.passes x did.1, omega arith)
+    let did = c.in-Err.ensures in
+    (counts_1 t books pg c.requires.ready.passes x c.in-Err.field-0 did.0, leaves_all t books pg c.requires.ready.passes x did.1, omega arith)

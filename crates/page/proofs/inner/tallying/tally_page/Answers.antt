@@ -1,5 +1,7 @@
 -- The places are counted in turn, up to one for which refusal 12 is given.
-use Rattle.std.proofs.Common.{ℕ, List, ap, ◌∙◌, arith}
+use Rattle.std.proofs.Common.{ℕ, List, ◌≡◌, ap, ◌∙◌, arith}
+use Rattle.std.proofs.lemmas.Result.{err_from_is_err_and}
+use Rattle.answers.specs.declared.Refusal.TheVariants as refusal
 use Rattle.cells.specs.Spots.{cell_there}
 use Rattle.rules.specs.Judging.{judge}
 use Rattle.tables.proofs.Walking.{row_bytes}
@@ -23,19 +25,24 @@ look-requires c =
       its_cell c.args.layout c.args.page.now c.requires.0 c.requires.1 c.loop-place.invariant c.loop-place-test.true at_row c.locate-spot.ensures,
     )
 
-pub returns-in-Bad : goal.returns-in-Bad
-returns-in-Bad c =
-    tally_12 c.args.layout c.args.page.now c.requires.0 c.requires.1 c.loop-place.invariant c.loop-place-test.true c.walked-walk.ensures c.locate-spot.ensures
-    c.in-Bad.ensures
+pub returns-in_err-seen : goal.returns-in_err-seen
+returns-in_err-seen c =
+    let none = c.in_err-seen.ensures.ok_part in
+    let value = rw none at c.in_err-seen.ensures.value in
+    let twelve : c.in_err-seen.field-0.0 ≡ refusal.BadCellAt c.loop-place.place = cc in
+    let e = err_from_is_err_and c.from_residual.result c.from_residual.ensures.1 in
+    rw (e.1, e.2, twelve)
+    (tally_12 c.args.layout c.args.page.now c.requires.0 c.requires.1 c.loop-place.invariant c.loop-place-test.true c.walked-walk.ensures c.locate-spot.ensures
+    (rw none at c.look.ensures))
 
 pub overflow_add-counts : goal.overflow_add-counts
 overflow_add-counts c =
-    omega (arith, count_fits c.args.layout c.args.page.now c.requires.0 c.requires.1 c.loop-place.invariant c.loop-place-test.true c.answer_number-n.result)
+    omega (arith, count_fits c.args.layout c.args.page.now c.requires.0 c.requires.1 c.loop-place.invariant c.loop-place-test.true c.answer_number.result)
 
 pub loop-place-preserved : goal.loop-place-preserved
 loop-place-preserved c =
-    let seen = c.in-At.ensures in
+    let seen = rw c.in_ok-seen.ensures.ok_part at c.look.ensures in
     let spot = c.locate-spot.result in
     let judged = seen.1.is_judged ∙ ap (λ (row : List ℕ). judge c.args.mode.0 row (cell_there c.args.page.now spot)) c.row_at.ensures.0 in
     counts_on c.args.layout c.args.page.now c.requires.0 c.requires.1 c.loop-place.invariant c.loop-place-test.true c.walked-walk.ensures c.locate-spot.ensures
-    seen.0 judged c.answer_number-n.ensures.0
+    seen.0 judged c.answer_number.ensures.0
