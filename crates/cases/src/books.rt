@@ -33,11 +33,10 @@ pub fn one() -> Shelf
 pub fn told(shelf: Shelf, numbers: &[u64]) -> Shelf
     ensures { (result.books.0 ≡ slice_index numbers.now 0) × (result.book.0 ≡ slice_index numbers.now 1) × (result.layout ≡ shelf.layout) }
 {
-    let layout = shelf.layout;
     Shelf {
         books: Books(number(numbers, 0) as usize),
         book: Book(number(numbers, 1) as usize),
-        layout,
+        ..shelf
     }
 }
 
@@ -45,11 +44,8 @@ pub fn told(shelf: Shelf, numbers: &[u64]) -> Shelf
 pub fn laid(shelf: Shelf, numbers: &[u64]) -> Shelf
     ensures { (result.books ≡ shelf.books) × (result.book ≡ shelf.book) × (result.layout ≡ layout_of (slice_index numbers.now 0)) }
 {
-    let books = shelf.books;
-    let book = shelf.book;
     Shelf {
-        books,
-        book,
         layout: layout_of(number(numbers, 0) as usize),
+        ..shelf
     }
 }

@@ -1,8 +1,9 @@
 // The cases of the call check, and of the rows of places. A table is given by its size in bytes, the 16 bytes of
 // the row that it has again and again, and then changes, each a position and what stands there.
-ghost use Rattle.std.specs.Prelude.{◌≡◌, ◌<◌, length};
+ghost use Rattle.std.specs.Prelude.{◌≡◌, length};
 ghost use Rattle.tables.specs.Row.{row_length};
 
+use crate::numbers::{Numbers, low_byte};
 use pairing::Checked;
 use pairing::inner::survey::{Surveyed, survey};
 use rows::inner::row;
@@ -12,66 +13,43 @@ use script::output;
 
 // table, and then the table: its places, by the call check.
 pub fn check(rt: &impl Print, numbers: &[u64], room: &mut [u8]) {
-    run(rt, numbers, 0, room);
+    if let Some(table) = table(Numbers::of(numbers), room) {
+        checked(rt, table);
+    }
 }
 
 // row P, and then a table: of place P the row; and the row's length, step, places and radii.
 pub fn place(rt: &impl Print, numbers: &[u64], room: &mut [u8]) {
-    run(rt, numbers, 1, room);
-}
-
-// The table stands from `first` on, and is made in the room that is lent.
-fn run(rt: &impl Print, numbers: &[u64], first: usize, room: &mut [u8])
-    requires { first < 2 }
-{
-    let size = number(numbers, first) as usize;
-    if size <= room.len() {
-        case(rt, &mut room[..size], numbers, first);
+    let mut numbers = Numbers::of(numbers);
+    let place = numbers.next() as usize;
+    if let Some(table) = table(numbers, room) {
+        surveyed(rt, table, place);
     }
 }
 
-fn case(rt: &impl Print, table: &mut [u8], numbers: &[u64], first: usize)
-    requires { first < 2 }
-{
-    make(table, numbers, first + 1);
-    if first == 0 {
-        checked(rt, table);
-    } else {
-        surveyed(rt, table, number(numbers, 0) as usize);
+// The table that the numbers that are left give, in the room that is lent; none where it is too small.
+pub fn table<'a>(mut numbers: Numbers, room: &'a mut [u8]) -> Option<&'a mut [u8]> {
+    let size = numbers.next() as usize;
+    let table = room.get_mut(..size)?;
+    let mut row = [0u8; 16];
+    numbers.fill(&mut row, low_byte);
+    repeat(table, &row);
+    change(table, numbers.left());
+    Some(table)
+}
+
+// The row, again and again.
+fn repeat(table: &mut [u8], row: &[u8; 16]) {
+    for (i, byte) in table.iter_mut().enumerate() {
+        *byte = row[i % 16];
     }
 }
 
-// A table, of what stands from `first` on: the row, and then the changes.
-pub fn make(table: &mut [u8], numbers: &[u64], first: usize) {
-    if first < 256 {
-        fill(table, numbers, first);
-        change(table, numbers, first + 16);
-    }
-}
-
-// The row that stands from `first` on, again and again.
-fn fill(table: &mut [u8], numbers: &[u64], first: usize)
-    requires { first < 256 }
-{
-    let mut i = 0;
-    while i < table.len() {
-        table[i] = (number(numbers, first + i % 16) % 256) as u8;
-        i += 1;
-    }
-}
-
-// The changes that stand from `first` on.
-fn change(table: &mut [u8], numbers: &[u64], first: usize) {
-    let mut i = first;
-    while i < numbers.len() {
-        put(table, numbers[i] as usize, number(numbers, i + 1));
-        i += 2;
-    }
-}
-
-fn put(table: &mut [u8], at: usize, value: u64) {
-    if at < table.len() {
-        table[at] = (value % 256) as u8;
+fn change(table: &mut [u8], changes: &[u64]) {
+    for change in changes.chunks(2) {
+        if let Some(place) = table.get_mut(number(change, 0) as usize) {
+            *place = low_byte(number(change, 1));
+        }
     }
 }
 
@@ -112,11 +90,7 @@ fn fields(rt: &impl Print, row: &[u8], number: usize)
 fn radii(rt: &impl Print, row: &[u8])
     requires { length row.now ≡ row_length }
 {
-    let mut n = 0;
-    while n < 8 {
-        if n < row::radii(row) {
-            output::next(rt, row::radius(row, n).0 as u64);
-        }
-        n += 1;
+    for n in 0..row::radii(row).min(8) {
+        output::next(rt, row::radius(row, n).0 as u64);
     }
 }

@@ -1,34 +1,14 @@
 // The lines of the input, one after the other: each is written again, and if it is a case, it is run. The room is
 // lent to the cases. What a line says of books, or of the layout, holds until the next one that does.
-ghost use Rattle.std.specs.Prelude.{◌≤◌, length};
-
 use crate::books::Shelf;
 use crate::{books, checks, indices, pages, shells, vectors};
 use script::{input, output};
 
 pub fn run(rt: &impl Print, text: &[u8], room: &mut [u8]) {
     let mut shelf = books::one();
-    let mut from = 0;
-    while from < text.len() {
-        let to = line_end(text, from);
-        shelf = line(rt, shelf, &text[from..to], room);
-        from = to + 1;
+    for piece in text.split_inclusive(|byte| *byte == b'\n') {
+        shelf = line(rt, shelf, piece.strip_suffix(b"\n").unwrap_or(piece), room);
     }
-}
-
-// Where the line that begins at `from` ends.
-fn line_end(text: &[u8], from: usize) -> usize
-    requires { from ≤ length text.now }
-    ensures { (from ≤ result) × (result ≤ length text.now) }
-{
-    let mut to = from;
-    while to < text.len() {
-        if text[to] == b'\n' {
-            return to;
-        }
-        to += 1;
-    }
-    to
 }
 
 // Writes and runs a line; the books and the layout that are meant after it.
@@ -43,14 +23,9 @@ fn line(rt: &impl Print, shelf: Shelf, line: &[u8], room: &mut [u8]) -> Shelf {
 
 // The first letter of a line tells the case, or that it is one of books or of a layout; any other line is a remark.
 fn case(rt: &impl Print, shelf: Shelf, line: &[u8], numbers: &[u64], room: &mut [u8]) -> Shelf {
-    let letter = input::first(line);
-    if letter == b'B' {
-        return books::told(shelf, numbers);
-    }
-    if letter == b'L' {
-        return books::laid(shelf, numbers);
-    }
-    match letter {
+    match input::first(line) {
+        b'B' => return books::told(shelf, numbers),
+        b'L' => return books::laid(shelf, numbers),
         b'c' => shells::count(rt, numbers),
         b'w' => shells::width(rt, numbers),
         b's' => shells::of_length(rt, numbers),
@@ -59,8 +34,14 @@ fn case(rt: &impl Print, shelf: Shelf, line: &[u8], numbers: &[u64], room: &mut 
         b't' => checks::check(rt, numbers, room),
         b'r' => checks::place(rt, numbers, room),
         b'n' => vectors::nearest(rt, numbers),
-        b'q' | b'S' => vectors::run(rt, letter, shelf, numbers, room),
-        b'T' | b'C' | b'R' | b'V' | b'A' | b'M' => pages::run(rt, letter, shelf, numbers, room),
+        b'q' => vectors::run(rt, vectors::Call::Quantize, shelf, numbers, room),
+        b'S' => vectors::run(rt, vectors::Call::Send, shelf, numbers, room),
+        b'T' => pages::run(rt, pages::Call::Take, shelf, numbers, room),
+        b'C' => pages::run(rt, pages::Call::Collect, shelf, numbers, room),
+        b'R' => pages::run(rt, pages::Call::Read, shelf, numbers, room),
+        b'V' => pages::run(rt, pages::Call::Coefficient, shelf, numbers, room),
+        b'A' => pages::run(rt, pages::Call::Tally, shelf, numbers, room),
+        b'M' => pages::run(rt, pages::Call::Convert, shelf, numbers, room),
         _ => (),
     }
     shelf

@@ -9,6 +9,7 @@ mod books;
 mod checks;
 mod indices;
 mod lines;
+mod numbers;
 mod pages;
 mod shells;
 mod vectors;

@@ -35,13 +35,11 @@ pub fn of_length(rt: &impl Print, numbers: &[u64]) {
 fn shells_of(length: usize) -> Shells {
     let mut usable: u64 = 0;
     let mut points: u64 = 0;
-    let mut radius = 0;
-    while radius <= 32 {
+    for radius in 0..=32 {
         if let Counted::Points(n) = shell::count(Length(length), Radius(radius)) {
-            usable = std::num::wrapping_add_u64(usable, 1);
-            points = std::num::wrapping_add_u64(points, n);
+            usable = usable.wrapping_add(1);
+            points = points.wrapping_add(n);
         }
-        radius += 1;
     }
     Shells { usable, points }
 }

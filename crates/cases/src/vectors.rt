@@ -3,6 +3,7 @@
 // is seen to leave it.
 use crate::books::Shelf;
 use crate::checks;
+use crate::numbers::{Numbers, low_word};
 use answers::Refusal;
 use floats::inner::{from_pattern, is_unusable, nearest_whole};
 use quantizer::Quantized;
@@ -10,9 +11,15 @@ use script::input::number;
 use script::output;
 use sending::Sending;
 
+#[derive(Clone, Copy)]
+pub enum Call {
+    Quantize,
+    Send,
+}
+
 // The low 32 bits as a coefficient.
 fn coefficient(n: u64) -> f32 {
-    from_pattern((n % 4294967296) as u32)
+    from_pattern(low_word(n))
 }
 
 // nearest B: the magnitude of the whole number nearest to 256 times the coefficient.
@@ -27,84 +34,25 @@ pub fn nearest(rt: &impl Print, numbers: &[u64]) {
 
 // quantize P B C, then C coefficients and a table: what the call says of place P with a record of B bytes, and what
 // these are then. Send 0 B C, then the same: what the call says of the page with a buffer of B bytes, and what these
-// are then. The letter tells the call.
-pub fn run(rt: &impl Print, call: u8, shelf: Shelf, numbers: &[u64], room: &mut [u8]) {
+// are then.
+pub fn run(rt: &impl Print, call: Call, shelf: Shelf, numbers: &[u64], room: &mut [u8]) {
+    let mut numbers = Numbers::of(numbers);
+    let place = numbers.next() as usize;
+    let size = numbers.next() as usize;
     let mut coefficients = [0.0f32; 20];
-    let count = number(numbers, 2) as usize;
-    if count <= 20 {
-        with_vector(rt, call, shelf, numbers, &mut coefficients[..count], room);
-    }
-}
-
-fn with_vector(
-    rt: &impl Print,
-    call: u8,
-    shelf: Shelf,
-    numbers: &[u64],
-    coefficients: &mut [f32],
-    room: &mut [u8],
-) {
-    fill(numbers, coefficients);
-    let first = 3 + coefficients.len();
-    let size = number(numbers, first) as usize;
-    if size <= room.len() {
-        with_table(
-            rt,
-            call,
-            shelf,
-            numbers,
-            first + 1,
-            coefficients,
-            &mut room[..size],
-        );
-    }
-}
-
-fn fill(numbers: &[u64], coefficients: &mut [f32]) {
-    let mut i = 0;
-    while i < coefficients.len() {
-        coefficients[i] = coefficient(number(numbers, 3 + i));
-        i += 1;
-    }
-}
-
-fn with_table(
-    rt: &impl Print,
-    call: u8,
-    shelf: Shelf,
-    numbers: &[u64],
-    first: usize,
-    coefficients: &[f32],
-    table: &mut [u8],
-) {
-    checks::make(table, numbers, first);
     let mut out = [9; 40];
-    let size = number(numbers, 1) as usize;
-    if size <= 40 {
-        called(
-            rt,
-            call,
-            shelf,
-            table,
-            number(numbers, 0) as usize,
-            coefficients,
-            &mut out[..size],
-        );
-    }
-}
-
-fn called(
-    rt: &impl Print,
-    call: u8,
-    shelf: Shelf,
-    table: &[u8],
-    place: usize,
-    coefficients: &[f32],
-    out: &mut [u8],
-) {
+    let Some(coefficients) = numbers.sized(&mut coefficients, coefficient) else {
+        return;
+    };
+    let Some(table) = checks::table(numbers, room) else {
+        return;
+    };
+    let Some(out) = out.get_mut(..size) else {
+        return;
+    };
     match call {
-        b'q' => quantized(rt, shelf, table, place, coefficients, out),
-        _ => sent(rt, shelf, table, coefficients, out),
+        Call::Quantize => quantized(rt, shelf, table, place, coefficients, out),
+        Call::Send => sent(rt, shelf, table, coefficients, out),
     }
 }
 
@@ -134,9 +82,7 @@ fn sent(rt: &impl Print, shelf: Shelf, table: &[u8], run: &[f32], out: &mut [u8]
 }
 
 pub fn bytes(rt: &impl Print, out: &[u8]) {
-    let mut at = 0;
-    while at < out.len() {
-        output::next(rt, out[at] as u64);
-        at += 1;
+    for byte in out {
+        output::next(rt, *byte as u64);
     }
 }

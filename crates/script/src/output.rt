@@ -30,14 +30,24 @@ pub fn signed(rt: &impl Print, negative: bool, magnitude: u64) {
     }
 }
 
-// The answers of a place, by their numbers in the tally's order.
-pub fn answer(rt: &impl Print, n: u8) {
-    match n {
-        0 => words(rt, b" = sound"),
-        1 => words(rt, b" = mended"),
-        2 => words(rt, b" = missing"),
-        3 => words(rt, b" = contested"),
-        _ => words(rt, b" = unreadable"),
+// What is found at a place, in the tally's order.
+#[derive(Clone, Copy)]
+pub enum Finding {
+    Sound,
+    Mended,
+    Missing,
+    Contested,
+    Unreadable,
+}
+
+// What is found at a place.
+pub fn answer(rt: &impl Print, finding: Finding) {
+    match finding {
+        Finding::Sound => words(rt, b" = sound"),
+        Finding::Mended => words(rt, b" = mended"),
+        Finding::Missing => words(rt, b" = missing"),
+        Finding::Contested => words(rt, b" = contested"),
+        Finding::Unreadable => words(rt, b" = unreadable"),
     }
 }
 

@@ -1,0 +1,59 @@
+// The numbers of a line, taken one after the other. Where there are no more, 0 is taken.
+#[derive(Clone, Copy)]
+pub struct Numbers<'a> {
+    rest: &'a [u64],
+}
+
+impl<'a> Numbers<'a> {
+    pub fn of(line: &'a [u64]) -> Numbers<'a> {
+        Numbers { rest: line }
+    }
+
+    // All that are left.
+    pub fn left(self) -> &'a [u64] {
+        self.rest
+    }
+
+    pub fn next(&mut self) -> u64 {
+        match self.rest.split_first() {
+            Some((n, rest)) => {
+                self.rest = rest;
+                *n
+            }
+            None => 0,
+        }
+    }
+
+    // Makes each thing of a number.
+    pub fn fill<T: Copy, F: Fn(u64) -> T>(&mut self, things: &mut [T], made: F)
+        requires { F.IsAlwaysCallable made }
+    {
+        for thing in things.iter_mut() {
+            *thing = made(self.next());
+        }
+    }
+
+    // A size, and then so many things, each made of a number, in the room that is lent; none where it is too small.
+    pub fn sized<'b, T: Copy, F: Fn(u64) -> T>(
+        &mut self,
+        room: &'b mut [T],
+        made: F,
+    ) -> Option<&'b mut [T]>
+        requires { F.IsAlwaysCallable made }
+    {
+        let size = self.next() as usize;
+        let things = room.get_mut(..size)?;
+        self.fill(things, made);
+        Some(things)
+    }
+}
+
+// The low 8 bits as a byte.
+pub fn low_byte(n: u64) -> u8 {
+    (n % 256) as u8
+}
+
+// The low 32 bits as a word.
+pub fn low_word(n: u64) -> u32 {
+    (n % 4294967296) as u32
+}
