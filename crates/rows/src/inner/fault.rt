@@ -14,9 +14,10 @@ fn out_of_order(row: &[u8], number: usize) -> bool
     ensures { result ≡ out_of_order row.now number }
 {
     if number == 0 {
-        return radius(row, 0).0 != 0;
+        radius(row, 0).0 != 0
+    } else {
+        radius(row, number).0 <= radius(row, number - 1).0
     }
-    radius(row, number).0 <= radius(row, number - 1).0
 }
 
 // The largest usable radius of a row, by the total of the row's own enumeration.
@@ -29,6 +30,7 @@ fn largest_in(row: &[u8]) -> usize
 }
 
 // A radius out of order or above the largest usable one, or an unused position that is not 0.
+#[tactic(auto, using(tables::proofs::Faults::unused_says, tables::proofs::Faults::disorder_says, tables::proofs::Faults::used_says))]
 fn bad_radius(row: &[u8], most: usize, number: usize) -> bool
     requires { (listed.length row.now ≡ row_length) × IsLargest row.now most × (number < 8) }
     ensures { result ≡ bad_radius row.now number }
@@ -36,23 +38,19 @@ fn bad_radius(row: &[u8], most: usize, number: usize) -> bool
     if radii(row) <= number {
         return radius(row, number).0 != 0;
     }
-    if out_of_order(row, number) {
-        return true;
-    }
-    most < radius(row, number).0
+    out_of_order(row, number) || most < radius(row, number).0
 }
 
+#[tactic(auto, using(tables::proofs::Faults::radius_bad, tables::proofs::Faults::radius_good), unfolding(tables::specs::Row::bad_radii))]
 fn bad_radii(row: &[u8]) -> bool
     requires { (listed.length row.now ≡ row_length) × (1 ≤ length_of row.now) × (length_of row.now ≤ 16) }
     ensures { result ≡ bad_radii row.now 8 }
 {
     let most = largest_in(row);
-    let mut number = 0;
-    while number < 8 {
+    for number in 0..8 {
         if bad_radius(row, most, number) {
             return true;
         }
-        number += 1;
     }
     false
 }
@@ -62,39 +60,16 @@ fn bad_tail(row: &[u8]) -> bool
     requires { listed.length row.now ≡ row_length }
     ensures { result ≡ any_of (tail_faults row.now) }
 {
-    if step(row) < 1 {
-        return true;
-    }
-    if places(row) < 1 {
-        return true;
-    }
-    if 2 < selector(row).0 {
-        return true;
-    }
-    byte(row, 15) != 0
+    step(row) < 1 || places(row) < 1 || 2 < selector(row).0 || byte(row, 15) != 0
 }
 
 // A row that is bad by itself.
+#[tactic(auto, unfolding(tables::specs::Row::bad_row))]
 pub fn bad_row(row: &[u8]) -> bool
     requires { listed.length row.now ≡ row_length }
     ensures { result ≡ bad_row row.now }
 {
     let l = length(row).0;
-    if l < 1 {
-        return true;
-    }
-    if 16 < l {
-        return true;
-    }
     let n = radii(row);
-    if n < 1 {
-        return true;
-    }
-    if 8 < n {
-        return true;
-    }
-    if bad_radii(row) {
-        return true;
-    }
-    bad_tail(row)
+    l < 1 || 16 < l || n < 1 || 8 < n || bad_radii(row) || bad_tail(row)
 }

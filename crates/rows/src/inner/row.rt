@@ -18,6 +18,7 @@ pub fn row_at(table: &[u8], number: usize) -> &[u8]
 }
 
 // Byte `at` of a row.
+#[tactic(auto, unfolding(tables::specs::Row::byte_of))]
 pub fn byte(row: &[u8], at: usize) -> usize
     requires { (listed.length row.now ≡ row_length) × (at < row_length) }
     ensures { (result ≡ byte_of row.now at) × (result < 256) }
