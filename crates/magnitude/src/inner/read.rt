@@ -26,20 +26,21 @@ pub struct Step {
 }
 
 // Among the points that begin with no zero, those with a smaller first magnitude are passed: twice as many begin with
-// each as the row of counts has for what the magnitude leaves.
+// each as the row of counts has for what the magnitude leaves. A `for` that counts k down tests each k too, and was
+// slower.
 fn pass(counts: &[u64], left: Left) -> Left
     requires { Passable counts.now left.k left.n }
     ensures { IsPassed counts.now left.k left.n result }
 {
-    let mut n = left.n;
-    for k in (0..left.k).rev() {
+    let Left { mut k, mut n } = left;
+    loop {
+        k -= 1;
         let both = 2 * counts[k];
         if n < both {
             return Left { k, n };
         }
         n -= both;
     }
-    unreachable!()
 }
 
 // The first coordinate, and what is left behind it, which is `behind` coordinates long; the row of counts is that of
