@@ -5,12 +5,13 @@ use mathlib.Core.Bool.{Bool, true, false}
 use mathlib.Core.List.{List, [], ◌∷◌}
 use mathlib.Core.Path.{◌≡◌, refl, sym, ap, ◌∙◌}
 use lib.ListN.{length}
+use Rattle.std.specs.Prelude.{Result, Ok}
+use Rattle.answers.specs.declared.Refusal.{Refusal}
 use Rattle.answers.proofs.InOrder.{passed_says, passed_leaves}
 use Rattle.answers.proofs.Lengths.{right_length}
 use Rattle.pairing.proofs.Surveys.{Surveys, survey_good}
 use Rattle.pairing.specs.Meanings.{survey_meaning}
 use Rattle.pairing.specs.declared.inner.survey.Surveyed.{Surveyed}
-use Rattle.pairing.specs.declared.inner.survey.Surveyed.TheVariants as surveyed
 use Rattle.tables.specs.Table.{places_in, survey_says}
 use Rattle.layout.specs.Converting.{converted}
 use Rattle.layout.specs.Layout.{cells_of, page_length, page_length_check}
@@ -20,19 +21,17 @@ use Rattle.rules.specs.Layouts.{turned, convert_says, convert_leaves}
 use Rattle.rules.specs.Taking.{page_check, page_checks}
 use Rattle.places.proofs.Opening.{told_to}
 
-module _ (t : List ℕ) (books : ℕ) (pg : List ℕ) {survey : Surveyed} {places row : ℕ} (says : survey_meaning survey ≡ survey_says (page_checks t books pg) t 0)
-    (told : survey ≡ surveyed.Good places row) where
-  found : Surveys (page_checks t books pg) t 0 places row
+module _ (t : List ℕ) (books : ℕ) (pg : List ℕ) {survey : Result Surveyed Refusal} {s : Surveyed} (says : survey_meaning survey ≡ survey_says (page_checks t books pg) t 0)
+    (told : survey ≡ Ok s) where
+  found : Surveys (page_checks t books pg) t 0 s.places s.row
   found = survey_good (page_checks t books pg) t 0 says (page_numbered t books pg) told
 
   -- so many cells are few enough
-  pub few_cells : cells_of places books ≤ 65536
-  few_cells =
-      let few = told_to (page_checks t books pg) t books 0 survey (page_numbered t books pg) (page_books t books pg) says in
-      rw told at few
+  pub few_cells : cells_of s.places books ≤ 65536
+  few_cells = told_to books found (page_books t books pg)
 
   -- n is their number, and `wrong` what was found of the other page's length
-  module _ {n : ℕ} (is_n : n ≡ cells_of places books) where
+  module _ {n : ℕ} (is_n : n ≡ cells_of s.places books) where
     its_cells : n ≡ cells_of (places_in t) books
     its_cells = is_n ∙ ap (λ (p : ℕ). cells_of p books) found.is_places
 

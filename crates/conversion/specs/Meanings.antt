@@ -1,9 +1,7 @@
 -- What the answers of the conversions say: 0, or a refusal's number and values.
-use Rattle.std.specs.Prelude.{ℕ, List, [], ◌∷◌}
-use Rattle.answers.specs.Refusals.{meaning}
-use Rattle.conversion.specs.declared.Conversion.{Conversion}
-use Rattle.conversion.specs.declared.Conversion.TheVariants as conversion
+use Rattle.std.specs.Prelude.{ℕ, List, Result}
+use Rattle.answers.specs.declared.Refusal.{Refusal}
+use Rattle.answers.specs.Refusals.{verdict_meaning}
 
-abbrev pub conversion_meaning : Conversion → List ℕ
-conversion_meaning conversion.Converted = 0 ∷ []
-conversion_meaning (conversion.Refused refusal) = meaning refusal
+abbrev pub conversion_meaning : Result (Unit {0}) Refusal → List ℕ
+conversion_meaning = verdict_meaning

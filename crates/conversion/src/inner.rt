@@ -3,11 +3,9 @@ ghost use Rattle.std.specs.Prelude.{◌≡◌};
 ghost use Rattle.rules.specs.Layouts.{convert_says, convert_leaves};
 ghost use Rattle.conversion.specs.Meanings.{conversion_meaning};
 
-use crate::Conversion;
 use answers::Refusal;
 use layout::Layout;
 use layout::inner::{cells, convert, wrong_page};
-use pairing::inner::survey::Surveyed;
 use places::inner::opening::survey_page;
 use tables::Books;
 
@@ -19,19 +17,15 @@ pub fn convert_page(
     books: Books,
     page: &[u8],
     other: &mut [u8],
-) -> Conversion
+) -> Result<(), Refusal>
     ensures { (conversion_meaning result ≡ convert_says table.now books.0 page.now other.old)
         × (other.new ≡ convert_leaves from to table.now books.0 page.now other.old) }
 {
-    match survey_page(table, books, page, 0) {
-        Surveyed::Good { places, row: _ } => {
-            let n = cells(places, books.0);
-            if wrong_page(n, other.len()) {
-                return Conversion::Refused(Refusal::BufferLength);
-            }
-            convert(from, to, n, page, other);
-            Conversion::Converted
-        }
-        Surveyed::Bad(refusal) => Conversion::Refused(refusal),
+    let surveyed = survey_page(table, books, page, 0)?;
+    let n = cells(surveyed.places, books.0);
+    if wrong_page(n, other.len()) {
+        return Err(Refusal::BufferLength);
     }
+    convert(from, to, n, page, other);
+    Ok(())
 }

@@ -14,19 +14,13 @@ use inner::convert_page;
 use layout::Layout;
 use tables::Books;
 
-#[derive(Clone, Copy)]
-pub enum Conversion {
-    Converted,
-    Refused(Refusal),
-}
-
 // The call to_states_first: a page that is kept cell by cell into one that is to be kept states first.
 pub fn to_states_first(
     table: &[u8],
     books: Books,
     cell_by_cell: &[u8],
     states_first: &mut [u8],
-) -> Conversion
+) -> Result<(), Refusal>
     ensures { (conversion_meaning result ≡ convert_says table.now books.0 cell_by_cell.now states_first.old)
         × (states_first.new ≡ convert_leaves layouts.CellByCell layouts.StatesFirst
         table.now books.0 cell_by_cell.now states_first.old) }
@@ -47,7 +41,7 @@ pub fn to_cell_by_cell(
     books: Books,
     states_first: &[u8],
     cell_by_cell: &mut [u8],
-) -> Conversion
+) -> Result<(), Refusal>
     ensures { (conversion_meaning result ≡ convert_says table.now books.0 states_first.now cell_by_cell.old)
         × (cell_by_cell.new ≡ convert_leaves layouts.StatesFirst layouts.CellByCell
         table.now books.0 states_first.now cell_by_cell.old) }
