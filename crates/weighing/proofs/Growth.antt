@@ -1,15 +1,14 @@
 -- How the weight of what stands from a coordinate on comes from that of what stands after it, for a nonzero
 -- coordinate; and that none of its numbers is large, within lengths to 16 and radii to 32.
-use Prim.Native.Nat.{ℕ, zero, suc, ◌+◌, ◌-◌, ◌*◌, ◌^◌, ◌≤◌, ◌<◌}
-use mathlib.Core.Path.{◌≡◌, refl, sym, ◌∙◌}
-use mathlib.Core.List.{List, ◌∷◌}
-use mathlib.Core.Bool.{Bool, true}
+use Prim.Native.Nat.{ℕ, zero, suc, ◌+◌, ◌*◌, ◌^◌, ◌≤◌}
+use mathlib.Core.Path.{◌≡◌, refl, sym, ap, ◌∙◌}
+use mathlib.Core.List.{List, [], ◌∷◌, ◌++◌, append_assoc, append-nil}
+use mathlib.Core.Bool.{true}
 use native.Mathlib.Omega.{arith}
 use native.Mathlib.Nat.{zero-add, le_trans, le_of_lt}
 use native.Mathlib.Numerals.{add-one}
-use lib.IntN.{ℤ, pos, nat_abs}
-use lib.ListN.{length, drop, get_or, length-drop}
-use lib.Seq.{drop-cons}
+use lib.IntN.{ℤ, pos, negsuc, nat_abs}
+use lib.ListN.{length, length-append}
 use Rattle.counts.specs.Counts.{D, S, B}
 use Rattle.counts.proofs.Pascal.{D_zero, S_none, B_zero}
 use Rattle.enumeration.specs.Point.{radius_of, is_nonzero, is_negative, pattern_in, nonzeros_in, shape_in, signs_in}
@@ -17,10 +16,9 @@ use Rattle.enumeration.specs.Product.{pattern_index, sign_bit, sign_index}
 use Rattle.enumeration.proofs.Parts.{pattern_part, sign_part, nonzeros_part}
 use Rattle.enumeration.proofs.Shapes.{S_start}
 use Rattle.enumeration.proofs.Steps.{nonzeros_grow, pattern_grows, sign_grows}
-use Rattle.enumeration.proofs.Tails.{radius_drop}
 use Rattle.ranges.proofs.Sizes.{D_small_enough, S_small_enough, B_small_enough}
 use Rattle.weighing.specs.declared.inner.Weight.{Weight}
-use Rattle.weighing.specs.Weights.{shapes_after, nothing, weight_of, extended, Room}
+use Rattle.weighing.specs.Weights.{shapes_after, nothing, weight_of, extended, in_front, Room}
 use Rattle.weighing.proofs.After.{shape_and_after, after_grows}
 
 -- no nonzero coordinates sum to nothing
@@ -98,25 +96,46 @@ grows z y n l k =
       same_weight s refl pattern after sign,
     )
 
--- what a call is lent that adds the coordinate at `at` to the weight of what stands after it
-abbrev pub Added : Weight → List ℤ → ℕ → Type 0
-Added behind x at = (at < length x) × (length x ≤ 16) × (radius_of x ≤ 32) × (behind ≡ weight_of (drop (suc at) x))
+-- any coordinate in front of y
+pub grown : (c : ℤ) (y : List ℤ) → length (c ∷ y) ≤ 16 → radius_of (c ∷ y) ≤ 32 → in_front (weight_of y) c (length y) ≡ weight_of (c ∷ y)
+grown (pos zero) y l k = sym (zero_weight y)
+grown (pos (suc i)) y l k = (grows (pos (suc i)) y refl l k).1
+grown (negsuc i) y l k = (grows (negsuc i) y refl l k).1
 
-module _ (behind : Weight) (x : List ℤ) (at : ℕ) (p : Added behind x at) where
-  front : drop at x ≡ get_or x at (pos 0) ∷ drop (suc at) x
-  front = drop-cons x at (pos 0) p.0
+radius_behind : (front back : List ℤ) → radius_of back ≤ radius_of (front ++ back)
+radius_behind [] back = omega arith
+radius_behind (c ∷ front) back = omega (arith, radius_behind front back)
 
-  pub with_zero : get_or x at (pos 0) ≡ pos 0 → behind ≡ weight_of (drop at x)
-  with_zero z = p.3 ∙ sym (rw (front, z) (zero_weight (drop (suc at) x)))
+-- the last n coordinates of x have been gone through, and this is their weight; `front` is still to come
+abbrev pub GoneThrough : List ℤ → List ℤ → ℕ → Weight → Type 0
+GoneThrough x front n weight = (back : List ℤ) × (x ≡ front ++ back) × (length back ≡ n) × (weight ≡ weight_of back)
 
-  -- with the magnitude i and the sign that the code has found of the coordinate
-  pub with_nonzero : (i : ℕ) (negative : Bool) → is_nonzero (get_or x at (pos 0)) ≡ true → i ≡ nat_abs (get_or x at (pos 0))
-      → negative ≡ is_negative (get_or x at (pos 0))
-      → Room behind i negative (length x - at - 1) × (extended behind i negative (length x - at - 1) ≡ weight_of (drop at x))
-  with_nonzero i negative n e f =
-      let z = get_or x at (pos 0) in
-      let y = drop (suc at) x in
-      let left : length y ≡ length x - at - 1 = omega (arith, length-drop (suc at) x, p.0) in
-      let short : radius_of (drop at x) ≤ 32 = omega (arith, radius_drop x at, p.2) in
-      let radius : radius_of (z ∷ y) ≤ 32 = rw front at short in
-      rw (p.3, e, f, front, ← left) (grows z y n (omega (arith, p.0, p.1)) radius)
+-- at first none have
+pub none_gone : (x : List ℤ) {front : List ℤ} {n : ℕ} {weight : Weight} → front ≡ x → n ≡ 0 → weight ≡ nothing → GoneThrough x front n weight
+none_gone x {front} e z w = ([], sym e ∙ sym (append-nil front), sym z, w ∙ sym (none_weighs [] refl))
+
+-- at the end all have
+pub all_gone : (x front : List ℤ) (n : ℕ) (weight : Weight) → length front ≡ 0 → GoneThrough x front n weight → weight ≡ weight_of x
+all_gone x [] n weight e p = p.3 ∙ ap weight_of (sym p.1)
+all_gone x (c ∷ front) n weight e p = absurd (omega arith)
+
+-- c is the last that is still to come
+module _ (x front rest : List ℤ) (c : ℤ) (n left : ℕ) (weight : Weight) (p : GoneThrough x front n weight) (e : front ≡ rest ++ c ∷ []) (same : left ≡ n)
+    (short : length x ≤ 16) (near : radius_of x ≤ 32) where
+  whole : x ≡ rest ++ (c ∷ p.0)
+  whole = p.1 ∙ ap (λ (y : List ℤ). y ++ p.0) e ∙ append_assoc rest (c ∷ []) p.0
+
+  length_to : length (c ∷ p.0) ≤ 16
+  length_to = omega (arith, short, ap length whole, length-append rest (c ∷ p.0))
+
+  radius_to : radius_of (c ∷ p.0) ≤ 32
+  radius_to = omega (arith, near, ap radius_of whole, radius_behind rest (c ∷ p.0))
+
+  left_is : left ≡ length p.0
+  left_is = same ∙ sym p.2
+
+  pub room : is_nonzero c ≡ true → Room weight (nat_abs c) (is_negative c) left
+  room some = rw (p.3, left_is) (grows c p.0 some length_to radius_to).0
+
+  pub one_more : {next : ℕ} {more : Weight} → next ≡ n + 1 → more ≡ in_front weight c left → GoneThrough x rest next more
+  one_more f g = (c ∷ p.0, whole, omega (arith, f, p.2), g ∙ rw (p.3, left_is) (grown c p.0 length_to radius_to))

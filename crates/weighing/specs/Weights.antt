@@ -1,9 +1,9 @@
 -- The weight that the code gathers from the last coordinate of a point to its first, and the index that it makes
 -- up. The shape counts by what comes after it, which takes one count a coordinate where the offset of the rules is
 -- a difference of two.
-use Rattle.std.specs.Prelude.{ℕ, suc, ◌+◌, ◌-◌, ◌*◌, ◌^◌, ◌≤◌, ◌<◌, ◌≡◌, List, [], ◌∷◌, Bool, ℤ, length}
+use Rattle.std.specs.Prelude.{ℕ, suc, ◌+◌, ◌-◌, ◌*◌, ◌^◌, ◌≤◌, ◌<◌, ◌≡◌, List, [], ◌∷◌, Bool, cond, ℤ, nat_abs, length}
 use Rattle.counts.specs.Counts.{D, S, B, range_start}
-use Rattle.enumeration.specs.Point.{sum_of, radius_of, pattern_in, nonzeros_in, shape_in, signs_in}
+use Rattle.enumeration.specs.Point.{sum_of, radius_of, is_nonzero, is_negative, pattern_in, nonzeros_in, shape_in, signs_in}
 use Rattle.enumeration.specs.Product.{pattern_index, sign_bit, sign_index, index_from}
 use Rattle.weighing.specs.declared.inner.Weight.{Weight}
 
@@ -40,7 +40,11 @@ extended behind i negative left =
       sign = sign_bit negative * B behind.s + behind.sign;
     }
 
--- what is asked for that: no nonzero coordinate has no weight, and within lengths to 16 and radii to 32 none of the
+-- a weight with any coordinate in front: a zero adds nothing
+abbrev pub in_front : Weight → ℤ → ℕ → Weight
+in_front behind c left = cond (is_nonzero c) (extended behind (nat_abs c) (is_negative c) left) behind
+
+-- what is asked for a nonzero coordinate: no nonzero coordinate has no weight, and within lengths to 16 and radii to 32 none of the
 -- sums is large
 pub record Room (behind : Weight) (i : ℕ) (negative : Bool) (left : ℕ) : Type 0 where
   pub none_behind : behind.s ≡ 0 → behind ≡ nothing

@@ -1,13 +1,13 @@
 // The index of a point, in one pass from its last coordinate: the weight of what stands from a coordinate on is
 // made of that of what stands after it.
-ghost use Rattle.std.specs.Prelude.{◌≡◌, suc, ◌+◌, ◌-◌, ◌*◌, ◌≤◌, ◌<◌, drop};
+ghost use Rattle.std.specs.Prelude.{◌≡◌, suc, ◌+◌, ◌-◌, ◌*◌, ◌≤◌, ◌<◌, true, nat_abs};
 ghost use Rattle.std.proofs.Math.ListN as listed;
 ghost use Rattle.counts.specs.Counts.{B};
 ghost use Rattle.counts.specs.Fields.{size_of, field_total};
-ghost use Rattle.enumeration.specs.Point.{OnShell, radius_of};
+ghost use Rattle.enumeration.specs.Point.{OnShell, radius_of, is_nonzero, is_negative};
 ghost use Rattle.enumeration.specs.Product.{sign_bit, product_index};
 ghost use Rattle.tables.specs.Usable.{IsUsable};
-ghost use Rattle.weighing.specs.Weights.{nothing, weight_of, extended, Room, Summable, weighed, Weighable};
+ghost use Rattle.weighing.specs.Weights.{nothing, weight_of, extended, in_front, Room, Summable, weighed, Weighable};
 
 use coordinates::inner::magnitude;
 use counts::{Field, Length, Radius};
@@ -15,7 +15,7 @@ use ranges::inner::{pattern_count, range_start, room, shape_count, sign_count};
 
 // Of some coordinates: the number s of those that are nonzero, their sum k, the pattern index, the number of shapes
 // that come after theirs, and the sign index.
-#[derive(Clone, Copy)]
+#[derive(Clone, Copy, Default)]
 pub struct Weight {
     pub s: usize,
     pub k: usize,
@@ -83,48 +83,32 @@ fn with_nonzero(behind: Weight, i: usize, negative: bool, left: Length) -> Weigh
     requires { Room behind i negative left.0 }
     ensures { result ≡ extended behind i negative left.0 }
 {
-    if behind.s == 0 {
-        return last_nonzero(i, negative, left);
+    match behind.s {
+        0 => last_nonzero(i, negative, left),
+        1 => with_one_other(behind, i, negative, left),
+        _ => with_others(behind, i, negative, left),
     }
-    if behind.s == 1 {
-        return with_one_other(behind, i, negative, left);
-    }
-    with_others(behind, i, negative, left)
 }
 
-// The weight of what stands from `at` on, from that of what stands after it.
-fn with_coordinate(behind: Weight, x: &[i32], at: usize) -> Weight
-    requires { (at < listed.length x.now) × (listed.length x.now ≤ 16) × (radius_of x.now ≤ 32) × (behind ≡ weight_of (drop (suc at) x.now)) }
-    ensures { result ≡ weight_of (drop at x.now) }
+// The weight with a coordinate in front of `left` others.
+fn with_coordinate(behind: Weight, c: i32, left: Length) -> Weight
+    requires { is_nonzero c ≡ true → Room behind (nat_abs c) (is_negative c) left.0 }
+    ensures { result ≡ in_front behind c left.0 }
 {
-    let c = x[at];
     if c == 0 {
         return behind;
     }
-    with_nonzero(
-        behind,
-        magnitude(c) as usize,
-        c < 0,
-        Length(x.len() - at - 1),
-    )
+    with_nonzero(behind, magnitude(c) as usize, c < 0, left)
 }
 
-// The weight of a point.
+// The weight of a point, from its last coordinate on.
 fn weight_of(x: &[i32]) -> Weight
     requires { (listed.length x.now ≤ 16) × (radius_of x.now ≤ 32) }
     ensures { result ≡ weight_of x.now }
 {
-    let mut at = x.len();
-    let mut weight = Weight {
-        s: 0,
-        k: 0,
-        pattern: 0,
-        after: 0,
-        sign: 0,
-    };
-    while 0 < at {
-        at -= 1;
-        weight = with_coordinate(weight, x, at);
+    let mut weight = Weight::default();
+    for (left, c) in x.iter().rev().enumerate() {
+        weight = with_coordinate(weight, *c, Length(left));
     }
     weight
 }

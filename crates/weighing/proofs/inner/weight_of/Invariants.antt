@@ -1,12 +1,6 @@
--- At each turn the weight is that of what stands from `at` on.
-use Prim.Native.Nat.{◌≤◌}
-use mathlib.Core.Path.{◌≡◌}
-use lib.ListN.{length, drop}
-use Rattle.weighing.specs.Weights.{weight_of}
+-- At each turn the weight is that of what has been gone through, from the end.
+use Rattle.weighing.proofs.Growth.{GoneThrough}
 use Rattle.weighing.proofs.inner.weight_of.Given as goal
 
-abbrev pub invariant-loop-at : goal.invariant-loop-at
-invariant-loop-at l = (l.at ≤ length l.x) × (l.weight ≡ weight_of (drop l.at l.x))
-
-abbrev pub decreases-loop-at : goal.decreases-loop-at
-decreases-loop-at l = l.at
+abbrev pub invariant-loop-left : goal.invariant-loop-left
+invariant-loop-left l = GoneThrough l.x l.left-iterator.iter.iter.rest.now l.left-iterator.count l.weight
