@@ -1,25 +1,34 @@
--- Bytes stored one after the other into a buffer of as many are all that it holds.
-use Prim.Native.Nat.{ℕ, ◌/◌, ◌%◌}
-use mathlib.Core.Path.{◌≡◌, refl, sym, ap, ◌∙◌}
+-- A record that is written into a buffer of eight bytes, field by field.
+use Prim.Native.Nat.{ℕ, ◌-◌, ◌%◌}
+use mathlib.Core.Path.{◌≡◌, refl, ap, ◌∙◌}
 use mathlib.Core.List.{List, [], ◌∷◌, ◌++◌, append-nil}
-use native.Mathlib.Nat.{le_of_eq, zero-add, div-one}
-use lib.ListN.{length, drop}
+use native.Mathlib.Nat.{div-one}
+use native.Mathlib.Omega.{arith}
+use lib.ListN.{length, set, drop, length-drop, drop_of_length-le}
+use lib.Seq.{drop-cons}
+use borrow.Rule.Slice.PartMut.{put_mid}
+use Rattle.std.specs.Int.{w16, w64, byte_at, to_be_bytes}
 use Rattle.records.specs.Record.{record_length, field_of, record_of}
-use lib.Seq.{sets, sets-eq, drop-length}
 
-all_stored : (bytes held : List ℕ) → length bytes ≡ length held → sets held 0 bytes ≡ bytes
-all_stored bytes held same =
-    sets-eq bytes held 0 (le_of_eq (zero-add (length bytes) ∙ same))
-    ∙ ap (λ (k : ℕ). bytes ++ drop k held) (zero-add (length bytes) ∙ same)
-    ∙ ap (λ (rest : List ℕ). bytes ++ rest) (drop-length held)
-    ∙ append-nil bytes
+-- a buffer that held `held`: its first two bytes are written, the next two each by itself, and then the others
+module _ (held : List ℕ) (eight : length held ≡ record_length) where
+  abbrev begun : List ℕ → ℕ → ℕ → List ℕ
+  begun field c d = set (set (field ++ drop 2 held) 2 c) 3 d
 
--- so with the eight bytes of a record, each worked out by itself
-pub record_stored : (book place row number codeword : ℕ) (held : List ℕ) → length held ≡ record_length → {field a b c d e f g h : ℕ}
-    → field ≡ field_of book place → a ≡ field / 256 % 256 → b ≡ field % 256 → c ≡ row % 256 → d ≡ number % 256
-    → e ≡ codeword / 16777216 % 256 → f ≡ codeword / 65536 % 256 → g ≡ codeword / 256 % 256 → h ≡ codeword % 256
-    → sets held 0 (a ∷ b ∷ c ∷ d ∷ e ∷ f ∷ g ∷ h ∷ []) ≡ record_of book place row number codeword
-unfolding record_of
-record_stored book place row number codeword held same {field} {a} {b} {c} {d} {e} {f} {g} {h} is_field ea eb ec ed ee ef eg eh =
-    all_stored (a ∷ b ∷ c ∷ d ∷ e ∷ f ∷ g ∷ h ∷ []) held (sym same)
-    ∙ rw (ea, eb, ec, ed, ee, ef, eg, eh, is_field, div-one (field_of book place), div-one row, div-one number, div-one codeword) refl
+  abbrev ended : List ℕ → ℕ → ℕ → List ℕ → List ℕ
+  ended field c d code = put_mid 4 (length (begun field c d) - 4) (begun field c d) code
+
+  all_written : (a b c d : ℕ) (code : List ℕ) → ended (a ∷ b ∷ []) c d code ≡ a ∷ b ∷ c ∷ d ∷ code
+  all_written a b c d code =
+      rw (drop-cons held 2 0 (omega arith), drop-cons held 3 0 (omega arith))
+      (ap (λ (rest : List ℕ). a ∷ b ∷ c ∷ d ∷ (code ++ rest)) (drop_of_length-le (drop 4 held) (omega (arith, length-drop 4 held)))
+      ∙ ap (λ (all : List ℕ). a ∷ b ∷ c ∷ d ∷ all) (append-nil code))
+
+  pub record_stored : (book place row number codeword : ℕ) {field code : List ℕ} {c d : ℕ} → field ≡ to_be_bytes w16 (field_of book place)
+      → c ≡ row % 256 → d ≡ number % 256 → code ≡ drop 4 (to_be_bytes w64 codeword)
+      → ended field c d code ≡ record_of book place row number codeword
+  unfolding record_of
+  record_stored book place row number codeword is_field is_row is_number is_code =
+      rw (is_field, is_row, is_number, is_code)
+      (all_written (byte_at 1 (field_of book place)) (byte_at 0 (field_of book place)) (row % 256) (number % 256) (drop 4 (to_be_bytes w64 codeword))
+      ∙ rw (div-one (field_of book place), div-one row, div-one number, div-one codeword) refl)

@@ -1,6 +1,7 @@
 -- A record (docs/RULES.md, "Quantizing into a record"): 8 bytes, book and place in one field (2), row (1), radius
 -- number within the row (1), codeword (4), high byte first.
-use Rattle.std.specs.Prelude.{ℕ, ◌+◌, ◌*◌, ◌/◌, ◌%◌, ◌^◌, ◌<◌, ◌≡◌, List, [], ◌∷◌, ◌++◌, Bool, true, false, ◌&&◌, eqb, take, drop}
+use Rattle.std.specs.Prelude.{ℕ, ◌+◌, ◌*◌, ◌/◌, ◌%◌, ◌^◌, ◌<◌, ◌≡◌, List, ◌++◌, Bool, take, drop}
+use Rattle.std.specs.Str.{bytes_eq}
 use Rattle.answers.specs.Checks.{Check, length_check}
 use Rattle.octets.specs.Octets.{high_first, from_high}
 
@@ -38,12 +39,9 @@ radius_number_in bytes = from_high (take 1 (drop 3 bytes))
 abbrev pub codeword_in : List ℕ → ℕ
 codeword_in bytes = from_high (take 4 (drop 4 bytes))
 
--- the same bytes
+-- the same bytes, one by one, and as many
 abbrev pub same_bytes : List ℕ → List ℕ → Bool
-same_bytes [] [] = true
-same_bytes [] (y ∷ ys) = false
-same_bytes (x ∷ xs) [] = false
-same_bytes (x ∷ xs) (y ∷ ys) = eqb x y && same_bytes xs ys
+same_bytes = bytes_eq
 
 -- what a record holds: the book, and these four
 pub record Holds (bytes : List ℕ) (book place row radius_number codeword : ℕ) : Type 0 where

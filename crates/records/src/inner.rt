@@ -4,7 +4,7 @@ ghost use Rattle.records.specs.Record.{record_length, record_check, same_bytes, 
 ghost use Rattle.records.specs.Naming.{IsNamed, InField};
 
 // What a record names: the book, the place in that book, and the row of the place.
-#[derive(Clone, Copy)]
+#[derive(Clone, Copy, PartialEq, Eq)]
 pub struct Named {
     pub book: usize,
     pub place: usize,
@@ -18,21 +18,6 @@ pub fn wrong_record(bytes: usize) -> bool
     bytes != 8
 }
 
-// Whether the bytes are the same.
-pub fn same(a: &[u8], b: &[u8]) -> bool
-    requires { length a.now ≡ length b.now }
-    ensures { result ≡ same_bytes a.now b.now }
-{
-    let mut at = 0;
-    while at < a.len() {
-        if a[at] != b[at] {
-            return false;
-        }
-        at += 1;
-    }
-    true
-}
-
 // The low byte of a number.
 fn low_byte(n: u64) -> u8
     ensures { result ≡ n % 256 }
@@ -41,11 +26,11 @@ fn low_byte(n: u64) -> u8
 }
 
 // The place field: the book above the twelve bits of the place.
-fn field(named: Named) -> u64
+fn field(named: Named) -> u16
     requires { InField named }
     ensures { result ≡ field_of named.book named.place }
 {
-    (4096 * named.book + named.place) as u64
+    (4096 * named.book + named.place) as u16
 }
 
 // The book and the place, the row, the radius number and the codeword.
@@ -53,22 +38,10 @@ pub fn write(named: Named, number: u64, codeword: u64, out: &mut [u8])
     requires { InField named × (length out.old ≡ record_length) }
     ensures { out.new ≡ record_of named.book named.place named.row number codeword }
 {
-    let field = field(named);
-    out[0] = low_byte(field / 256);
-    out[1] = low_byte(field);
+    out[..2].copy_from_slice(&field(named).to_be_bytes());
     out[2] = low_byte(named.row as u64);
     out[3] = low_byte(number);
-    out[4] = low_byte(codeword / 16777216);
-    out[5] = low_byte(codeword / 65536);
-    out[6] = low_byte(codeword / 256);
-    out[7] = low_byte(codeword);
-}
-
-fn byte(bytes: &[u8], at: usize) -> usize
-    requires { at < length bytes.now }
-    ensures { (result ≡ get_or bytes.now at 0) × (result < 256) }
-{
-    bytes[at] as usize
+    out[4..].copy_from_slice(&codeword.to_be_bytes()[4..]);
 }
 
 // The book, the place and the row.
@@ -76,11 +49,11 @@ pub fn named_in(bytes: &[u8]) -> Named
     requires { length bytes.now ≡ record_length }
     ensures { IsNamed bytes.now result }
 {
-    let field = 256 * byte(bytes, 0) + byte(bytes, 1);
+    let field = usize::from(u16::from_be_bytes([bytes[0], bytes[1]]));
     Named {
         book: field / 4096,
         place: field % 4096,
-        row: byte(bytes, 2),
+        row: usize::from(bytes[2]),
     }
 }
 
@@ -89,14 +62,12 @@ pub fn radius_number_in(bytes: &[u8]) -> usize
     requires { length bytes.now ≡ record_length }
     ensures { (result ≡ radius_number_in bytes.now) × (result < 256) }
 {
-    byte(bytes, 3)
+    usize::from(bytes[3])
 }
 
 pub fn codeword_in(bytes: &[u8]) -> u64
     requires { length bytes.now ≡ record_length }
     ensures { (result ≡ codeword_in bytes.now) × (result < 2 ^ 32) }
 {
-    let high = 256 * byte(bytes, 4) + byte(bytes, 5);
-    let low = 256 * byte(bytes, 6) + byte(bytes, 7);
-    (65536 * high + low) as u64
+    u64::from(u32::from_be_bytes([bytes[4], bytes[5], bytes[6], bytes[7]]))
 }

@@ -7,28 +7,16 @@ ghost use Rattle.cells.specs.Spots.{SpotIn, page_there, cell_there, bad_named, b
 
 use crate::inner::spot::Spot;
 use layout::inner::{record_at, set_cell, state_at};
-use records::inner::{Named, named_in, same};
+use records::inner::{Named, named_in};
 
 // Whether the cell of a place has a state above 2, or holds a record of another book, another place or another row than
 // these.
+#[tactic(auto, unfolding(rules::specs::Taking::bad_cell))]
 fn bad_cell(named: Named, state: u8, bytes: &[u8]) -> bool
     requires { length bytes.now ≡ record_length }
     ensures { result ≡ bad_named named (record { state = state; bytes = bytes.now }) }
 {
-    if 2 < state {
-        return true;
-    }
-    if state != 1 {
-        return false;
-    }
-    let held = named_in(bytes);
-    if held.book != named.book {
-        return true;
-    }
-    if held.place != named.place {
-        return true;
-    }
-    held.row != named.row
+    2 < state || (state == 1 && named_in(bytes) != named)
 }
 
 // The same of the cell of a place.
@@ -36,35 +24,31 @@ pub fn bad_at(page: &[u8], spot: Spot) -> bool
     requires { SpotIn page.now spot }
     ensures { result ≡ bad_there page.now spot }
 {
-    let layout = spot.layout;
-    let state = state_at(layout, page, spot.cells, spot.cell);
-    let named = spot.named;
-    bad_cell(named, state, record_at(layout, page, spot.cells, spot.cell))
+    bad_cell(
+        spot.named,
+        state_at(spot.layout, page, spot.cells, spot.cell),
+        record_at(spot.layout, page, spot.cells, spot.cell),
+    )
 }
 
 // The page rule: empty becomes held, held with other bytes becomes contested, and otherwise the cell stays.
+#[tactic(auto, using(crate::proofs::Spots::stays), unfolding(rules::specs::Taking::take_cell))]
 fn take_cell(page: &mut [u8], spot: Spot, bytes: &[u8])
     requires { SpotIn page.old spot × (length bytes.now ≡ record_length) }
     ensures { page_there page.new spot
         ≡ set_cell (page_there page.old spot) spot.cell (take_cell bytes.now (cell_there page.old spot)) }
 {
-    let layout = spot.layout;
-    let state = state_at(layout, page, spot.cells, spot.cell);
-    if state == 0 {
-        set_cell(layout, page, spot.cells, spot.cell, 1, bytes);
-        return;
+    match state_at(spot.layout, page, spot.cells, spot.cell) {
+        0 => set_cell(spot.layout, page, spot.cells, spot.cell, 1, bytes),
+        1 if record_at(spot.layout, page, spot.cells, spot.cell) != bytes => {
+            set_cell(spot.layout, page, spot.cells, spot.cell, 2, &[0; 8])
+        }
+        _ => {}
     }
-    if state != 1 {
-        return;
-    }
-    if same(record_at(layout, page, spot.cells, spot.cell), bytes) {
-        return;
-    }
-    let zeros = [0u8; 8];
-    set_cell(layout, page, spot.cells, spot.cell, 2, &zeros);
 }
 
 // A record into the cell of the place that it names, unless refusal 12 is given for the cell; whether it is given.
+#[tactic(auto, using(crate::proofs::Spots::stays))]
 pub fn arrive(page: &mut [u8], spot: Spot, bytes: &[u8]) -> bool
     requires { SpotIn page.old spot × (length bytes.now ≡ record_length) }
     ensures { (result ≡ bad_there page.old spot)

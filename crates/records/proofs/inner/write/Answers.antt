@@ -1,16 +1,14 @@
 -- The eight bytes of a record, where it stands.
+use Rattle.std.proofs.Common.{List, ℕ, take, drop, ap, ◌∙◌}
+use Rattle.std.specs.Int.{w16, to_be_bytes}
 use Rattle.records.proofs.Bytes.{record_stored}
 use Rattle.records.proofs.inner.write.Goals as goal
 
 pub returns : goal.returns
 returns c =
-    record_stored c.args.named.book c.args.named.place c.args.named.row c.args.number c.args.codeword c.args.out.now c.requires.1
-    c.field-field.ensures
+    let named = c.args.named in
+    record_stored c.args.out.now c.requires.1 named.book named.place named.row c.args.number c.args.codeword
+    (c.copy_from_slice.ensures.after ∙ c.to_be_bytes.ensures ∙ ap (to_be_bytes w16) c.field.ensures)
     c.low_byte.ensures
     c.low_byte-2.ensures
-    c.low_byte-3.ensures
-    c.low_byte-4.ensures
-    c.low_byte-5.ensures
-    c.low_byte-6.ensures
-    c.low_byte-7.ensures
-    c.low_byte-8.ensures
+    (c.copy_from_slice-2.ensures.after ∙ ap (λ (bytes : List ℕ). take 4 (drop 4 bytes)) c.to_be_bytes-2.ensures)
