@@ -7,7 +7,6 @@ ghost use Rattle.layout.specs.declared.Layout.TheVariants as layouts;
 ghost use Rattle.tables.specs.BookNumbers.{one_book, only_book};
 
 use layout::Layout;
-use layout::inner::layout_of;
 use script::input::number;
 use tables::{Book, Books, ONE_BOOK, ONLY_BOOK};
 
@@ -45,7 +44,7 @@ pub fn laid(shelf: Shelf, numbers: &[u64]) -> Shelf
     ensures { (result.books ≡ shelf.books) × (result.book ≡ shelf.book) × (result.layout ≡ layout_of (slice_index numbers.now 0)) }
 {
     Shelf {
-        layout: layout_of(number(numbers, 0) as usize),
+        layout: Layout::from(number(numbers, 0) as usize),
         ..shelf
     }
 }

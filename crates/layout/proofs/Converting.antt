@@ -1,14 +1,16 @@
 -- A page in another layout: it has the same length and the same cells; the way back gives the page itself, and so does
 -- a way from a layout to itself; and a cell that is set in one is set in the other.
-use Prim.Native.Nat.{ℕ, zero, suc, ◌+◌, ◌≤◌, ◌<◌}
+use Prim.Native.Nat.{ℕ, zero, suc, ◌+◌, ◌-◌, ◌≤◌, ◌<◌}
 use mathlib.Core.Bool.{Bool, true, false}
 use mathlib.Core.List.{List}
 use mathlib.Core.Path.{◌≡◌, refl, sym, ap, ◌∙◌}
 use native.Mathlib.Decide.{dec_lt}
 use native.Mathlib.Omega.{arith}
-use lib.ListN.{length, get_or, set, take, drop}
+use lib.ListN.{length, get_or, set, take, drop, length-set}
 use borrow.Author.Tests.{eq-eqb}
+use borrow.Rule.Slice.PartMut.{put_mid}
 use Rattle.answers.proofs.Lengths.{right_length}
+use Rattle.buffers.proofs.Writing.{wrote_part}
 use Rattle.buffers.specs.Written.{written}
 use Rattle.records.specs.Record.{record_length}
 use Rattle.layout.specs.Converting.{moved, converted, cell_by_cell}
@@ -16,6 +18,7 @@ use Rattle.layout.specs.Layout.{Cell, page_length, page_length_check, state_offs
 use Rattle.layout.specs.declared.Layout.{Layout}
 use Rattle.layout.specs.declared.Layout.TheVariants as layouts
 use Rattle.layout.proofs.Cells.{length_record, page_ext, set_size, cell_set_same, cell_set_other, is_set, empty_size, empty_cell_lem}
+use Rattle.layout.proofs.Offsets.{record_inside}
 
 module _ (from to : Layout) (n : ℕ) (pg : List ℕ) where
   -- ---- a page of n cells
@@ -116,11 +119,19 @@ module _ (from to : Layout) (n : ℕ) (pg : List ℕ) (size : length pg ≡ page
       (converted_cell from to n q q_size p h ∙ cell_set_same from n pg size p h c eight)
       (λ o g apart. converted_cell from to n q q_size o g ∙ cell_set_other from n pg size p h c eight o g apart ∙ sym (converted_cell from to n pg size o g))
 
-  -- by where its parts are stored
-  pub stored_set : (q : List ℕ) → q ≡ written (set pg (state_offset from n p) c.state) (record_offset from n p) c.bytes record_length
-      → converted from to n q ≡ set_in to n (converted from to n pg) p c
+  -- by where its parts are put: the state, and then the record in place of as many bytes
+  put : put_mid (record_offset from n p) 8 (set pg (state_offset from n p) c.state) c.bytes ≡ set_in from n pg p c
   unfolding stored
-  stored_set q is = ap (converted from to n) is ∙ converted_set
+  put =
+      let held = set pg (state_offset from n p) c.state in
+      let room : record_offset from n p + 8 ≤ length held = rw (length-set pg (state_offset from n p) c.state) (omega (arith, record_inside from n p h)) in
+      (wrote_part held c.bytes (record_offset from n p) 8 eight room).made ∙ ap (written held (record_offset from n p) c.bytes) eight
+
+  pub put_set : {s r : ℕ} {bytes : List ℕ} → s ≡ state_offset from n p → r ≡ record_offset from n p → bytes ≡ c.bytes
+      → converted from to n (put_mid r (r + 8 - r) (set pg s c.state) bytes) ≡ set_in to n (converted from to n pg) p c
+  put_set {r = r} here there same =
+      let as_many : r + 8 - r ≡ 8 = omega arith in
+      rw (as_many, here, there, same) (ap (converted from to n) put ∙ converted_set)
 
 -- ---- an empty page is empty in each layout
 pub empty_converted : (from to : Layout) (n : ℕ) → converted from to n (empty_page n) ≡ empty_page n

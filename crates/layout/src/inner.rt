@@ -1,11 +1,10 @@
 // The cells of a page and its length, and a cell's state and record in it, read and changed, in each layout. What is
 // told of a page is told of it cell by cell.
 ghost use Rattle.std.specs.Prelude.{◌≡◌, ◌+◌, ◌≤◌, ◌<◌, length};
-ghost use Rattle.buffers.specs.Written.{written};
 ghost use Rattle.records.specs.Record.{record_length};
 ghost use Rattle.layout.specs.Bounds.{InPage};
 ghost use Rattle.layout.specs.Converting.{converted, cell_by_cell};
-ghost use Rattle.layout.specs.Layout.{cells_of, cell_of, page_length, page_length_check, layout_of, state_offset, record_offset, cell_at, set_cell};
+ghost use Rattle.layout.specs.Layout.{cells_of, cell_of, page_length, page_length_check, state_offset, record_offset, cell_at, set_cell};
 
 use crate::Layout;
 
@@ -44,16 +43,6 @@ pub fn wrong_page(cells: usize, bytes: usize) -> bool
     bytes != page_length(cells)
 }
 
-// The layout of a number, for callers that have nothing but numbers: 0 is cell by cell, and any other is states first.
-pub fn layout_of(number: usize) -> Layout
-    ensures { result ≡ layout_of number }
-{
-    if number == 0 {
-        return Layout::CellByCell;
-    }
-    Layout::StatesFirst
-}
-
 // Where the state of a cell stands.
 fn state_offset(layout: Layout, cells: usize, cell: usize) -> usize
     requires { (cells ≤ 65536) × (cell < cells) }
@@ -90,20 +79,7 @@ pub fn record_at(layout: Layout, page: &[u8], cells: usize, cell: usize) -> &[u8
     ensures { (result.now ≡ (cell_at (cell_by_cell layout cells page.now) cell).bytes) × (length result.now ≡ record_length) }
 {
     let from = record_offset(layout, cells, cell);
-    let to = from + 8;
-    &page[from..to]
-}
-
-// The bytes of a record into a page from a byte on.
-fn store(page: &mut [u8], from: usize, bytes: &[u8])
-    requires { (from + record_length ≤ length page.old) × (length bytes.now ≡ record_length) }
-    ensures { page.new ≡ written page.old from bytes.now record_length }
-{
-    let mut at = 0;
-    while at < 8 {
-        page[from + at] = bytes[at];
-        at += 1;
-    }
+    &page[from..from + 8]
 }
 
 // A state and a record into the page.
@@ -113,7 +89,8 @@ pub fn set_cell(layout: Layout, page: &mut [u8], cells: usize, cell: usize, stat
         ≡ set_cell (cell_by_cell layout cells page.old) cell (record { state = state; bytes = bytes.now }) }
 {
     page[state_offset(layout, cells, cell)] = state;
-    store(page, record_offset(layout, cells, cell), bytes);
+    let from = record_offset(layout, cells, cell);
+    page[from..from + 8].copy_from_slice(bytes);
 }
 
 // Every cell of a page into another page, from where one layout has it to where the other has it.
@@ -121,17 +98,9 @@ pub fn convert(from: Layout, to: Layout, cells: usize, page: &[u8], other: &mut 
     requires { (length page.now ≡ page_length cells) × (length other.old ≡ page_length cells) × (cells ≤ 65536) }
     ensures { other.new ≡ converted from to cells page.now }
 {
-    let mut cell = 0;
-    while cell < cells {
+    for cell in 0..cells {
         let state = state_at(from, page, cells, cell);
-        set_cell(
-            to,
-            other,
-            cells,
-            cell,
-            state,
-            record_at(from, page, cells, cell),
-        );
-        cell += 1;
+        let record = record_at(from, page, cells, cell);
+        set_cell(to, other, cells, cell, state, record);
     }
 }

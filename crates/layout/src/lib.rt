@@ -4,6 +4,9 @@
 
 pub mod inner;
 
+ghost use Rattle.std.specs.Prelude.{◌≡◌};
+ghost use Rattle.layout.specs.Layout.{layout_of};
+
 // How a page is kept. Pages of both layouts have one length, so whoever lends a page says which one it is.
 #[derive(Clone, Copy)]
 pub enum Layout {
@@ -11,4 +14,16 @@ pub enum Layout {
     CellByCell,
     // the states of all cells, then all records
     StatesFirst,
+}
+
+// By number, for callers that have nothing but numbers: 0 is cell by cell, and any other is states first.
+impl From<usize> for Layout {
+    ghost from_gives = { λ number layout. layout ≡ layout_of number };
+
+    fn from(number: usize) -> Layout {
+        match number {
+            0 => Layout::CellByCell,
+            _ => Layout::StatesFirst,
+        }
+    }
 }

@@ -16,7 +16,7 @@ use crate::said::{
     take_item, tally_item,
 };
 use conversion::{to_cell_by_cell, to_states_first};
-use layout::inner::layout_of;
+use layout::Layout;
 use rules::Mode;
 use tables::{Book, Books};
 
@@ -35,7 +35,7 @@ pub fn probe_take(
         (take_leaves table.now books (as_cells (layout_of layout) table.now books page.old) bytes.now)) }
 {
     take_item(
-        page::take(table, Books(books), layout_of(layout), page, bytes),
+        page::take(table, Books(books), Layout::from(layout), page, bytes),
         which,
     )
 }
@@ -53,7 +53,7 @@ pub fn probe_collect(
         × (page.new ≡ as_kept (layout_of layout) table.now books
         (collected table.now books (as_cells (layout_of layout) table.now books page.old) bytes.now).page) }
 {
-    page::collect(table, Books(books), layout_of(layout), page, bytes)
+    page::collect(table, Books(books), Layout::from(layout), page, bytes)
 }
 
 // The call read.
@@ -79,7 +79,7 @@ pub fn probe_read(
             table,
             Books(books),
             Book(book),
-            layout_of(layout),
+            Layout::from(layout),
             page,
             place,
             out,
@@ -109,7 +109,7 @@ pub fn probe_coefficient(
             table,
             Books(books),
             Book(book),
-            layout_of(layout),
+            Layout::from(layout),
             page,
             place,
             coordinate,
@@ -137,7 +137,7 @@ pub fn probe_coefficient_value(
         table,
         Books(books),
         Book(book),
-        layout_of(layout),
+        Layout::from(layout),
         page,
         place,
         coordinate,
@@ -163,7 +163,7 @@ pub fn probe_tally(
             table,
             Books(books),
             Book(book),
-            layout_of(layout),
+            Layout::from(layout),
             page,
         ),
         which,
@@ -193,7 +193,7 @@ pub fn probe_lines(
             table,
             Books(books),
             Book(book),
-            layout_of(layout),
+            Layout::from(layout),
             page,
             from,
             out,
