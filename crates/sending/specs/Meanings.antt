@@ -1,10 +1,8 @@
 -- What the answers of the call send say, case by case.
-use Rattle.std.specs.Prelude.{ℕ, List, [], ◌∷◌}
-use Rattle.answers.specs.Refusals.{meaning}
-use Rattle.sending.specs.declared.Sending.{Sending}
-use Rattle.sending.specs.declared.Sending.TheVariants as sending
+use Rattle.std.specs.Prelude.{ℕ, List, Result}
+use Rattle.answers.specs.declared.Refusal.{Refusal}
+use Rattle.answers.specs.Refusals.{verdict_meaning}
 
 -- that every record is written, or a refusal
-abbrev pub send_meaning : Sending → List ℕ
-send_meaning sending.Written = 0 ∷ []
-send_meaning (sending.Refused refusal) = meaning refusal
+abbrev pub send_meaning : Result (Unit {0}) Refusal → List ℕ
+send_meaning = verdict_meaning

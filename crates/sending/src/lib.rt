@@ -11,22 +11,19 @@ ghost use Rattle.sending.specs.Meanings.{send_meaning};
 use answers::Refusal;
 use inner::sending::send_run;
 use pairing::inner::books::survey_book;
-use pairing::inner::survey::Surveyed;
 use tables::{Book, Books};
 
-#[derive(Clone, Copy)]
-pub enum Sending {
-    Written,
-    Refused(Refusal),
-}
-
 // The call send: the records are written once every coefficient of the book has passed.
-pub fn send(table: &[u8], books: Books, book: Book, run: &[f32], out: &mut [u8]) -> Sending
+pub fn send(
+    table: &[u8],
+    books: Books,
+    book: Book,
+    run: &[f32],
+    out: &mut [u8],
+) -> Result<(), Refusal>
     ensures { (send_meaning result ≡ send_says table.now books.0 book.0 run.now out.old)
         × (out.new ≡ send_leaves table.now books.0 book.0 run.now out.old) }
 {
-    match survey_book(table, books, book, 0) {
-        Surveyed::Good { places, row } => send_run(table, places, row, book, run, out),
-        Surveyed::Bad(refusal) => Sending::Refused(refusal),
-    }
+    let surveyed = survey_book(table, books, book, 0)?;
+    send_run(table, surveyed, book, run, out)
 }

@@ -12,11 +12,11 @@ ghost use Rattle.runs.specs.Sending.{run_checks, send_rest, records_of};
 ghost use Rattle.sending.specs.Meanings.{send_meaning};
 ghost use Rattle.sending.specs.Bounds.{Opened, Measured, Writable, Judged};
 
-use crate::Sending;
 use crate::inner::run::{coordinates, vector_at};
-use answers::{Refusal, Verdict};
+use answers::Refusal;
 use coding::inner::write_record;
 use coefficients::inner::coefficients::{first_at_fault, some_unusable};
+use pairing::inner::survey::Surveyed;
 use pairing::inner::walking::{walk_from, walked};
 use records::inner::Named;
 use rows::inner::row::{length, row_at};
@@ -24,27 +24,25 @@ use tables::Book;
 
 // Whether every coefficient is usable, or the refusal that names the lowest place at fault, and its first coordinate
 // at fault. The places are gone through only if some coefficient is unusable.
-fn check_run(table: &[u8], places: usize, first: usize, run: &[f32]) -> Verdict
+fn check_run(table: &[u8], places: usize, first: usize, run: &[f32]) -> Result<(), Refusal>
     requires { Measured table.now places first run.now }
     ensures { verdict_meaning result ≡ first_of (run_checks table.now run.now) (0 ∷ []) }
 {
     if !some_unusable(run) {
-        return Verdict::Passed;
+        return Ok(());
     }
     let mut walk = walk_from(table, first, 0);
     let mut from = 0;
-    let mut place = 0;
-    while place < places {
+    for place in 0..places {
         walk = walked(table, walk, place);
         let l = length(row_at(table, walk.row)).0;
         let coordinate = first_at_fault(vector_at(run, from, l));
         if coordinate < l {
-            return Verdict::Refused(Refusal::UnusableCoefficientAt { place, coordinate });
+            return Err(Refusal::UnusableCoefficientAt { place, coordinate });
         }
         from += l;
-        place += 1;
     }
-    Verdict::Passed
+    Ok(())
 }
 
 // The record of a vector in this row, with the book, the place and the row's number that it is to name, where the
@@ -66,8 +64,7 @@ fn write_records(table: &[u8], places: usize, first: usize, book: Book, run: &[f
 {
     let mut walk = walk_from(table, first, 0);
     let mut from = 0;
-    let mut place = 0;
-    while place < places {
+    for place in 0..places {
         walk = walked(table, walk, place);
         let number = walk.row;
         let row = row_at(table, number);
@@ -79,21 +76,18 @@ fn write_records(table: &[u8], places: usize, first: usize, book: Book, run: &[f
         };
         write_at(row, named, vector_at(run, from, l), out);
         from += l;
-        place += 1;
     }
 }
 
-// What send does with books, a table and a book that passed: the checks 4, 4 and 11, and the work. `first` is the row
-// of place 0.
+// What send does with books, a table and a book that passed: the checks 4, 4 and 11, and the work.
 pub fn send_run(
     table: &[u8],
-    places: usize,
-    first: usize,
+    surveyed: Surveyed,
     book: Book,
     run: &[f32],
     out: &mut [u8],
-) -> Sending
-    requires { Opened table.now places first × (book.0 < most_books) }
+) -> Result<(), Refusal>
+    requires { Opened table.now surveyed.places surveyed.row × (book.0 < most_books) }
     ensures { (send_meaning result
         ≡ first_of (send_rest table.now run.now (listed.length out.old)) (0 ∷ []))
         × (out.new
@@ -101,16 +95,12 @@ pub fn send_run(
         (records_of table.now book.0 run.now) out.old) }
 {
     if run.len() != coordinates(table) {
-        return Sending::Refused(Refusal::BufferLength);
+        return Err(Refusal::BufferLength);
     }
-    if out.len() != 8 * places {
-        return Sending::Refused(Refusal::BufferLength);
+    if out.len() != 8 * surveyed.places {
+        return Err(Refusal::BufferLength);
     }
-    match check_run(table, places, first, run) {
-        Verdict::Passed => {
-            write_records(table, places, first, book, run, out);
-            Sending::Written
-        }
-        Verdict::Refused(refusal) => Sending::Refused(refusal),
-    }
+    check_run(table, surveyed.places, surveyed.row, run)?;
+    write_records(table, surveyed.places, surveyed.row, book, run, out);
+    Ok(())
 }

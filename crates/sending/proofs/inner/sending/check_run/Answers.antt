@@ -4,7 +4,7 @@ use Rattle.std.proofs.Common.{rules, sym, ◌∙◌}
 use native.Mathlib.Omega.{arith}
 use Rattle.runs.proofs.Judging.{all_left, none_left, usable_says, place_11, place_passes}
 use Rattle.runs.proofs.Way.{begins, its_length, part_in, its_vector, goes_on, next_fits}
-use Rattle.sending.proofs.Opened.{place_0, inside, place_fits}
+use Rattle.sending.proofs.Opened.{place_0, inside}
 use Rattle.sending.proofs.inner.sending.check_run.Goals as goal
 
 pub returns-then-not-some_unusable : goal.returns-then-not-some_unusable
@@ -46,9 +46,6 @@ pub overflow_add-from : goal.overflow_add-from
 overflow_add-from c =
     let i = c.loop-place in
     omega (arith, next_fits i.invariant.0 (inside c.requires.opened i.place (search rules)) c.walked-walk.ensures c.row_at.ensures.0 c.length-l.ensures)
-
-pub overflow_add-place : goal.overflow_add-place
-overflow_add-place c = omega (arith, place_fits c.requires.opened c.loop-place.place (search rules))
 
 pub loop-place-preserved : goal.loop-place-preserved
 loop-place-preserved c =

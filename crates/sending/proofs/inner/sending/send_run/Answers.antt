@@ -3,7 +3,7 @@
 use Rattle.std.proofs.Common.{[], length, ◌*◌, refl, sym, ap, ◌∙◌}
 use native.Mathlib.Omega.{arith}
 use borrow.Author.Tests.{eq-eqb, ne_eqb}
-use Rattle.answers.specs.Refusals.{verdict_meaning}
+use Rattle.std.proofs.lemmas.Result.{err_from_is_err_and}
 use Rattle.answers.proofs.InOrder.{refusal_leaves, passes_leaves}
 use Rattle.tables.proofs.Good.{places_to}
 use Rattle.records.specs.Record.{record_length}
@@ -16,16 +16,16 @@ pub returns-then-run-coordinates : goal.returns-then-run-coordinates
 returns-then-run-coordinates c =
     rw (ne_eqb (length c.args.run.now) (coordinates_in c.args.table.now) (λ same. c.if-run-coordinates.true (same ∙ sym c.coordinates.ensures))) (refl, refl)
 
-pub overflow_mul-places : goal.overflow_mul-places
-overflow_mul-places c = omega (arith, c.requires.0.is_places, places_to c.args.table.now c.requires.0.good)
+pub overflow_mul-surveyed : goal.overflow_mul-surveyed
+overflow_mul-surveyed c = omega (arith, c.requires.0.is_places, places_to c.args.table.now c.requires.0.good)
 
-pub returns-then-out-places : goal.returns-then-out-places
-returns-then-out-places c =
+pub returns-then-out-surveyed : goal.returns-then-out-surveyed
+returns-then-out-surveyed c =
     let t = c.args.table.now in
     let long = c.if-run-coordinates.false ∙ c.coordinates.ensures in
     rw (
       eq-eqb (length c.args.run.now) (coordinates_in t) long,
-      ne_eqb (length c.args.out.now) (records_length t) (λ same. c.if-out-places.true (same ∙ ap (λ n. record_length * n) (sym c.requires.0.is_places))),
+      ne_eqb (length c.args.out.now) (records_length t) (λ same. c.if-out-surveyed.true (same ∙ ap (λ n. record_length * n) (sym c.requires.0.is_places))),
     )
     (refl, refl)
 
@@ -33,31 +33,32 @@ pub write_records-requires : goal.write_records-requires
 write_records-requires c =
     let t = c.args.table.now in
     let run = c.args.run.now in
-    let said = ap verdict_meaning (sym c.in-Passed.is) ∙ c.check_run.ensures in
+    let said = c.in_ok-check_run.ensures in
     let long = c.if-run-coordinates.false ∙ c.coordinates.ensures in
     record {
       measured = record { opened = c.requires.0; run_long = long };
       book_to = c.requires.1;
       all_usable = run_usable t run long (says_run t run said);
-      has_room = c.if-out-places.false ∙ ap (λ n. record_length * n) c.requires.0.is_places;
+      has_room = c.if-out-surveyed.false ∙ ap (λ n. record_length * n) c.requires.0.is_places;
     }
 
-pub returns-in-Passed : goal.returns-in-Passed
-returns-in-Passed c =
+pub returns : goal.returns
+returns c =
     let t = c.args.table.now in
     let run = c.args.run.now in
-    let said = ap verdict_meaning (sym c.in-Passed.is) ∙ c.check_run.ensures in
+    let said = c.in_ok-check_run.ensures in
     let long = c.if-run-coordinates.false ∙ c.coordinates.ensures in
-    let room = c.if-out-places.false ∙ ap (λ n. record_length * n) c.requires.0.is_places in
+    let room = c.if-out-surveyed.false ∙ ap (λ n. record_length * n) c.requires.0.is_places in
     rw (eq-eqb (length run) (coordinates_in t) long, eq-eqb (length c.args.out.now) (records_length t) room)
     (said, c.write_records.ensures ∙ sym (passes_leaves (records_of t c.args.book.0 run) c.args.out.now (run_checks t run) (says_run t run said)))
 
-pub returns-in-Refused : goal.returns-in-Refused
-returns-in-Refused c =
+pub returns-in_err-check_run : goal.returns-in_err-check_run
+returns-in_err-check_run c =
     let t = c.args.table.now in
     let run = c.args.run.now in
-    let said = ap verdict_meaning (sym c.in-Refused.is) ∙ c.check_run.ensures in
+    let said = c.in_err-check_run.ensures in
     let long = c.if-run-coordinates.false ∙ c.coordinates.ensures in
-    let room = c.if-out-places.false ∙ ap (λ n. record_length * n) c.requires.0.is_places in
-    rw (eq-eqb (length run) (coordinates_in t) long, eq-eqb (length c.args.out.now) (records_length t) room)
-    (said, refusal_leaves (records_of t c.args.book.0 run) c.args.out.now [] (run_checks t run) c.in-Refused.refusal said)
+    let room = c.if-out-surveyed.false ∙ ap (λ n. record_length * n) c.requires.0.is_places in
+    let p = err_from_is_err_and c.from_residual.result c.from_residual.ensures.1 in
+    rw (p.1, p.2, eq-eqb (length run) (coordinates_in t) long, eq-eqb (length c.args.out.now) (records_length t) room)
+    (said, refusal_leaves (records_of t c.args.book.0 run) c.args.out.now [] (run_checks t run) c.in_err-check_run.field-0.0 said)

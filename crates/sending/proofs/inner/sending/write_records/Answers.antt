@@ -51,9 +51,6 @@ overflow_add-from c =
     let i = c.loop-place in
     omega (arith, next_fits i.invariant.0 (inside c.requires.measured.opened i.place (search rules)) c.walked-walk.ensures c.row_at-row.ensures.0 c.length-l.ensures)
 
-pub overflow_add-place : goal.overflow_add-place
-overflow_add-place c = omega (arith, place_fits c.requires.measured.opened c.loop-place.place (search rules))
-
 pub loop-place-preserved : goal.loop-place-preserved
 loop-place-preserved c =
     let t = c.args.table.now in
