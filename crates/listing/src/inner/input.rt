@@ -30,12 +30,13 @@ fn take_file<F: Read>(rt: &impl Eprint, file: &mut F, table: &[u8], page: &mut [
 {
     let mut block = [0u8; 65536];
     let mut refused: u64 = 0;
-    let mut turns: u64 = 0;
     let mut n = fill(rt, file, RECORDS, &mut block);
-    while n == 65536 && turns < MOST_TURNS {
+    for _turn in 0..MOST_TURNS {
+        if n < block.len() {
+            break;
+        }
         refused += collect(table, Books(ONE_BOOK), Layout::CellByCell, page, &block) as u64;
         n = fill(rt, file, RECORDS, &mut block);
-        turns += 1;
     }
     refused += collect(
         table,

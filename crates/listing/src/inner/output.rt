@@ -16,6 +16,7 @@ pub fn print_page(
 ) {
     let mut out = [0u8; 65536];
     let mut from = 0;
+    // Each turn goes as far as the call lines says: no range or iterator counts that.
     while from < places {
         match lines(
             Mode(MENDING),
