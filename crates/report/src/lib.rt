@@ -18,7 +18,6 @@ use inner::block::{Span, lines_from};
 use inner::refusal::write_refusal;
 use layout::Layout;
 use page::Counts;
-use pairing::inner::survey::Surveyed;
 use places::inner::opening::survey_look;
 use rules::Mode;
 use tables::{Book, Books};
@@ -26,16 +25,9 @@ use text::inner::lines::write_last_line;
 
 // Lines written: the place from which to go on, and how many bytes they have.
 #[derive(Clone, Copy)]
-pub enum Listed {
-    Written { to: usize, size: usize },
-    Refused(Refusal),
-}
-
-// A line written: how many bytes it has.
-#[derive(Clone, Copy)]
-pub enum Lined {
-    Written(usize),
-    Refused(Refusal),
+pub struct Listed {
+    pub to: usize,
+    pub size: usize,
 }
 
 // The call lines: those of the places of a book from `from` on in a mode, as many as there are or as the buffer has
@@ -49,38 +41,34 @@ pub fn lines(
     page: &[u8],
     from: usize,
     out: &mut [u8],
-) -> Listed
+) -> Result<Listed, Refusal>
     ensures { (listed_meaning result ≡ lines_says mode.0 table.now books.0 book.0
         (as_cells layout table.now books.0 page.now) from out.old)
         × (out.new ≡ lines_leaves mode.0 table.now books.0 book.0
         (as_cells layout table.now books.0 page.now) from out.old)
         × (size_listed result ≤ length out.new) }
 {
-    match survey_look(mode, table, books, book, page, from) {
-        Surveyed::Good { places, row } => {
-            let opened = Span {
-                layout,
-                places,
-                books: books.0,
-                book: book.0,
-                row,
-                from,
-                to: places,
-            };
-            lines_from(mode, table, page, opened, out)
-        }
-        Surveyed::Bad(refusal) => Listed::Refused(refusal),
-    }
+    let surveyed = survey_look(mode, table, books, book, page, from)?;
+    let opened = Span {
+        layout,
+        places: surveyed.places,
+        books: books.0,
+        book: book.0,
+        row: surveyed.row,
+        from,
+        to: surveyed.places,
+    };
+    lines_from(mode, table, page, opened, out)
 }
 
-// The call last_line: the five counts, and the number of refused takes.
-pub fn last_line(counts: Counts, refused: u64, out: &mut [u8]) -> Lined
+// The call last_line: the five counts, and the number of refused takes; how many bytes the line has.
+pub fn last_line(counts: Counts, refused: u64, out: &mut [u8]) -> Result<usize, Refusal>
     ensures { (lined_meaning result ≡ line_says (last_line (counts_meaning counts) refused) out.old)
         × (out.new ≡ line_leaves (last_line (counts_meaning counts) refused) out.old)
         × (size_lined result ≤ length out.new) }
 {
     if out.len() < 256 {
-        return Lined::Refused(Refusal::BufferLength);
+        return Err(Refusal::BufferLength);
     }
     let numbers = [
         counts.sound as u64,
@@ -90,17 +78,18 @@ pub fn last_line(counts: Counts, refused: u64, out: &mut [u8]) -> Lined
         counts.unreadable as u64,
         refused,
     ];
-    Lined::Written(write_last_line(&numbers, 0, out))
+    Ok(write_last_line(&numbers, 0, out))
 }
 
-// The call refused_line: what is printed for a refusal, its number and the values of one that names two.
-pub fn refused_line(refusal: Refusal, out: &mut [u8]) -> Lined
+// The call refused_line: what is printed for a refusal, its number and the values of one that names two; how many
+// bytes the line has.
+pub fn refused_line(refusal: Refusal, out: &mut [u8]) -> Result<usize, Refusal>
     ensures { (lined_meaning result ≡ line_says (refused_text (printed (meaning refusal))) out.old)
         × (out.new ≡ line_leaves (refused_text (printed (meaning refusal))) out.old)
         × (size_lined result ≤ length out.new) }
 {
     if out.len() < 256 {
-        return Lined::Refused(Refusal::BufferLength);
+        return Err(Refusal::BufferLength);
     }
-    Lined::Written(write_refusal(refusal, out))
+    Ok(write_refusal(refusal, out))
 }

@@ -15,7 +15,7 @@ ghost use Rattle.report.specs.Meanings.{listed_meaning, size_listed};
 ghost use Rattle.report.specs.Bounds.{page_spanned, Spans, HasRoom, Listable};
 
 use crate::Listed;
-use answers::{Refusal, Verdict};
+use answers::Refusal;
 use cells::inner::rule::bad_at;
 use cells::inner::spot::{Spot, locate};
 use judging::inner::Seen;
@@ -42,7 +42,7 @@ pub struct Span {
 }
 
 // Whether the cells of these places are good, or the refusal that names the lowest that is not.
-fn check_cells(table: &[u8], page: &[u8], span: Span) -> Verdict
+fn check_cells(table: &[u8], page: &[u8], span: Span) -> Result<(), Refusal>
     requires { Spans table.now page.now span }
     ensures { verdict_meaning result
         ≡ first_of (each_from (cell_check_at table.now (page_spanned table.now page.now span) span.book)
@@ -50,8 +50,7 @@ fn check_cells(table: &[u8], page: &[u8], span: Span) -> Verdict
 {
     let layout = span.layout;
     let mut walk = walk_from(table, span.row, span.from);
-    let mut place = span.from;
-    while place < span.to {
+    for place in span.from..span.to {
         walk = walked(table, walk, place);
         let named = Named {
             book: span.book,
@@ -59,11 +58,10 @@ fn check_cells(table: &[u8], page: &[u8], span: Span) -> Verdict
             row: walk.row,
         };
         if bad_at(page, locate(layout, span.places, span.books, named)) {
-            return Verdict::Refused(Refusal::BadCellAt { place });
+            return Err(Refusal::BadCellAt { place });
         }
-        place += 1;
     }
-    Verdict::Passed
+    Ok(())
 }
 
 // The line of a place where this was seen, with room for its point; where it ends.
@@ -113,8 +111,7 @@ fn write_lines(mode: Mode, table: &[u8], page: &[u8], span: Span, out: &mut [u8]
     let layout = span.layout;
     let mut walk = walk_from(table, span.row, span.from);
     let mut end = 0;
-    let mut place = span.from;
-    while place < span.to {
+    for place in span.from..span.to {
         walk = walked(table, walk, place);
         let named = Named {
             book: span.book,
@@ -123,23 +120,19 @@ fn write_lines(mode: Mode, table: &[u8], page: &[u8], span: Span, out: &mut [u8]
         };
         let spot = locate(layout, span.places, span.books, named);
         end = write_line(mode, row_at(table, walk.row), page, spot, end, out);
-        place += 1;
     }
     end
 }
 
-fn least(a: usize, b: usize) -> usize
-    ensures { result ≡ min a b }
-{
-    if a < b {
-        return a;
-    }
-    b
-}
-
 // What lines does with a mode, books, a table, a book, a place and a page that passed: the checks 4 and 12, and the
 // work. The places of `opened` from its first on are those that may be listed.
-pub fn lines_from(mode: Mode, table: &[u8], page: &[u8], opened: Span, out: &mut [u8]) -> Listed
+pub fn lines_from(
+    mode: Mode,
+    table: &[u8],
+    page: &[u8],
+    opened: Span,
+    out: &mut [u8],
+) -> Result<Listed, Refusal>
     requires { Listable mode.0 table.now page.now opened }
     ensures says { listed_meaning result
         ≡ first_of (lines_rest table.now (page_spanned table.now page.now opened) opened.book opened.from
@@ -155,16 +148,12 @@ pub fn lines_from(mode: Mode, table: &[u8], page: &[u8], opened: Span, out: &mut
     ensures fits { size_listed result ≤ listed.length out.new }
 {
     if out.len() < 256 {
-        return Listed::Refused(Refusal::BufferLength);
+        return Err(Refusal::BufferLength);
     }
-    let to = opened.from + least(opened.to - opened.from, out.len() / 256);
+    let to = opened.from + usize::min(opened.to - opened.from, out.len() / 256);
     let mut span = opened;
     span.to = to;
-    match check_cells(table, page, span) {
-        Verdict::Passed => Listed::Written {
-            to,
-            size: write_lines(mode, table, page, span, out),
-        },
-        Verdict::Refused(refusal) => Listed::Refused(refusal),
-    }
+    check_cells(table, page, span)?;
+    let size = write_lines(mode, table, page, span, out);
+    Ok(Listed { to, size })
 }
