@@ -10,7 +10,7 @@ ghost use Rattle.numbering.specs.Numbered.{enumeration_in, index_in, point_in, U
 ghost use Rattle.indexing.specs.Calls.{selected_checks, index_rest, index_says, point_rest, point_says, point_leaves};
 ghost use Rattle.points.specs.Meanings.{index_meaning, point_meaning};
 
-use answers::{Refusal, Verdict};
+use answers::Refusal;
 use coordinates::inner::magnitude_sum;
 use counts::{Length, Radius};
 use enumeration::Selector;
@@ -18,82 +18,67 @@ use numbering::inner::{Numbering, Sought, seek, write_point};
 use selectors::inner::{field_of, select};
 use shell::check_shell;
 
-#[derive(Clone, Copy)]
-pub enum Indexed {
-    At(u64),
-    Refused(Refusal),
-}
-
-#[derive(Clone, Copy)]
-pub enum Pointed {
-    Written,
-    Refused(Refusal),
-}
-
 // The call index: the index of a point of the shell, by the enumeration that is selected.
-pub fn index(selector: Selector, length: Length, radius: Radius, x: &[i32]) -> Indexed
+pub fn index(selector: Selector, length: Length, radius: Radius, x: &[i32]) -> Result<u64, Refusal>
     ensures { index_meaning result ≡ index_says selector.0 length.0 radius.0 x.now }
 {
-    match check_selected(selector, length, radius) {
-        Verdict::Passed => index_usable(
-            Numbering {
-                selected: select(selector),
-                length,
-                radius,
-            },
-            x,
-        ),
-        Verdict::Refused(refusal) => Indexed::Refused(refusal),
-    }
+    check_selected(selector, length, radius)?;
+    let numbering = Numbering {
+        selected: select(selector),
+        length,
+        radius,
+    };
+    index_usable(numbering, x)
 }
 
 // The call point: the point of an index of the shell, by the enumeration that is selected, written into the lent buffer
 // once every check has passed.
-pub fn point(selector: Selector, length: Length, radius: Radius, n: u64, out: &mut [i32]) -> Pointed
+pub fn point(
+    selector: Selector,
+    length: Length,
+    radius: Radius,
+    n: u64,
+    out: &mut [i32],
+) -> Result<(), Refusal>
     ensures { (point_meaning result ≡ point_says selector.0 length.0 radius.0 n out.old)
         × (out.new ≡ point_leaves selector.0 length.0 radius.0 n out.old) }
 {
-    match check_selected(selector, length, radius) {
-        Verdict::Passed => point_usable(
-            Numbering {
-                selected: select(selector),
-                length,
-                radius,
-            },
-            n,
-            out,
-        ),
-        Verdict::Refused(refusal) => Pointed::Refused(refusal),
-    }
+    check_selected(selector, length, radius)?;
+    let numbering = Numbering {
+        selected: select(selector),
+        length,
+        radius,
+    };
+    point_usable(numbering, n, out)
 }
 
 // The checks 20, 1, 2 and 3, which both calls begin with.
-fn check_selected(selector: Selector, length: Length, radius: Radius) -> Verdict
+fn check_selected(selector: Selector, length: Length, radius: Radius) -> Result<(), Refusal>
     ensures { verdict_meaning result ≡ first_of (selected_checks selector.0 length.0 radius.0) (0 ∷ []) }
 {
     if 2 < selector.0 {
-        return Verdict::Refused(Refusal::NoSuchEnumeration);
+        return Err(Refusal::NoSuchEnumeration);
     }
     check_shell(field_of(select(selector)), length, radius)
 }
 
 // What index does in a usable shell: the checks 4 and 5, and the work.
-fn index_usable(numbering: Numbering, x: &[i32]) -> Indexed
+fn index_usable(numbering: Numbering, x: &[i32]) -> Result<u64, Refusal>
     requires { Usable numbering }
     ensures { index_meaning result
         ≡ first_of (index_rest numbering.length.0 numbering.radius.0 x.now) (0 ∷ index_in numbering x.now ∷ []) }
 {
     if x.len() != numbering.length.0 {
-        return Indexed::Refused(Refusal::BufferLength);
+        return Err(Refusal::BufferLength);
     }
     if magnitude_sum(x) != numbering.radius.0 as u64 {
-        return Indexed::Refused(Refusal::MagnitudeSum);
+        return Err(Refusal::MagnitudeSum);
     }
-    Indexed::At(numbering::inner::index(numbering, x))
+    Ok(numbering::inner::index(numbering, x))
 }
 
 // What point does in a usable shell: the checks 4, 6 and 15, and the work.
-fn point_usable(numbering: Numbering, n: u64, out: &mut [i32]) -> Pointed
+fn point_usable(numbering: Numbering, n: u64, out: &mut [i32]) -> Result<(), Refusal>
     requires { Usable numbering }
     ensures { (point_meaning result
         ≡ first_of (point_rest (enumeration_in numbering) numbering.length.0 numbering.radius.0 n (listed.length out.old)) (0 ∷ []))
@@ -102,15 +87,15 @@ fn point_usable(numbering: Numbering, n: u64, out: &mut [i32]) -> Pointed
         (point_in numbering n) out.old) }
 {
     if out.len() != numbering.length.0 {
-        return Pointed::Refused(Refusal::BufferLength);
+        return Err(Refusal::BufferLength);
     }
     match seek(numbering, n) {
         Sought::At(found) => {
             write_point(numbering, n, found, out);
-            Pointed::Written
+            Ok(())
         }
-        Sought::Empty => Pointed::Refused(Refusal::EmptyShape),
-        Sought::Past { total } => Pointed::Refused(Refusal::IndexPastEnd {
+        Sought::Empty => Err(Refusal::EmptyShape),
+        Sought::Past { total } => Err(Refusal::IndexPastEnd {
             distance: n - total,
         }),
     }
