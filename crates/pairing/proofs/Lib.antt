@@ -1,2 +1,3 @@
 pub mod Surveys
 pub mod OneToOne
+pub mod Starting

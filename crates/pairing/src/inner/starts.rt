@@ -6,31 +6,24 @@ ghost use Rattle.tables.specs.Way.{Starts};
 use rows::inner::row::{places, row_at};
 
 // For each row the first place in it, and behind the last row the number of places.
+#[tactic(auto, using(crate::proofs::Starting::starting), unfolding(tables::specs::Table::places_before))]
 pub fn row_starts(table: &[u8], starts: &mut [usize])
     requires { Good table.now × (length starts.old ≡ 33) }
     ensures { Starts table.now starts.new }
 {
-    let rows = table.len() / 16;
     let mut sum = 0;
-    let mut at = 0;
     starts[0] = 0;
-    while at < rows {
-        sum += places(row_at(table, at));
-        at += 1;
-        starts[at] = sum;
+    for row in 0..table.len() / 16 {
+        sum += places(row_at(table, row));
+        starts[row + 1] = sum;
     }
 }
 
 // Whether this is not the row of a place.
+#[tactic(auto, using(tables::proofs::Starting::row_past, tables::proofs::Starting::row_behind))]
 pub fn is_foreign(table: &[u8], starts: &[usize], row: usize, place: usize) -> bool
     requires { Starts table.now starts.now × (place < places_in table.now) }
     ensures { result ≡ not (eqb row (row_of table.now place)) }
 {
-    if table.len() / 16 <= row {
-        return true;
-    }
-    if place < starts[row] {
-        return true;
-    }
-    starts[row + 1] <= place
+    table.len() / 16 <= row || place < starts[row] || starts[row + 1] <= place
 }

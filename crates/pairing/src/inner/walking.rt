@@ -28,15 +28,14 @@ pub fn walked(table: &[u8], walk: Walk, place: usize) -> Walk
 }
 
 // How many places stand in the rows before this one.
+#[tactic(auto, using(crate::proofs::Starting::starting), unfolding(tables::specs::Table::places_before))]
 fn places_before(table: &[u8], row: usize) -> usize
     requires { Good table.now × (row ≤ rows_of table.now) }
     ensures { (result ≡ places_before table.now row) × (result ≤ 4096) }
 {
     let mut sum = 0;
-    let mut at = 0;
-    while at < row {
+    for at in 0..row {
         sum += places(row_at(table, at));
-        at += 1;
     }
     sum
 }

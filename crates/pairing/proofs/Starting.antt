@@ -1,0 +1,6 @@
+-- The lemmas by which the rows of a good table are summed, and where each begins is written.
+use Rattle.tables.proofs.Good.{right_size, good_total}
+use Rattle.tables.proofs.Starting.{starts_first, starts_next}
+use Rattle.tables.proofs.Walking.{none_before}
+
+pub ruleset starting = (right_size, good_total, none_before, starts_first, starts_next)
