@@ -1,3 +1,4 @@
 pub mod OneToOne
 pub mod Opened
 pub mod Records
+pub mod Counted

@@ -7,17 +7,15 @@ ghost use Rattle.runs.specs.Run.{coordinates_in};
 use rows::inner::row::{length, places, row_at};
 
 // The coordinates of all places together: those of a row are its places times its length.
+#[tactic(auto, using(crate::proofs::Counted::no_row, crate::proofs::Counted::row_more, crate::proofs::Counted::rows_small))]
 pub fn coordinates(table: &[u8]) -> usize
     requires { Good table.now }
     ensures { result ≡ coordinates_in table.now }
 {
-    let rows = table.len() / 16;
     let mut sum = 0;
-    let mut at = 0;
-    while at < rows {
-        let row = row_at(table, at);
+    for number in 0..table.len() / 16 {
+        let row = row_at(table, number);
         sum += places(row) * length(row).0;
-        at += 1;
     }
     sum
 }
