@@ -1,11 +1,10 @@
 -- The checks of the coefficients have a number above 0, and pass only where every coefficient is usable; and the search
 -- for an unusable one.
-use Prim.Native.Nat.{ℕ, zero, suc, ◌+◌, ◌<◌}
-use mathlib.Core.Bool.{Bool, true, false, ◌||◌, false≢true, or-true, or-false}
+use Prim.Native.Nat.{ℕ, zero, suc, ◌<◌}
+use mathlib.Core.Bool.{Bool, true, false, ◌||◌, false≢true}
 use mathlib.Core.List.{List, [], ◌∷◌}
-use mathlib.Core.Path.{◌≡◌, refl, sym, ap, ◌∙◌}
+use mathlib.Core.Path.{◌≡◌, refl, sym}
 use native.Mathlib.Decide.{dec_lt}
-use native.Mathlib.Numerals.{add-one}
 use native.Mathlib.Omega.{arith}
 use lib.Dec.{lit<}
 use lib.Ieee.{Float, nan}
@@ -34,13 +33,3 @@ none_usable xs (suc n) i none h = go (some_unusable xs n) refl none (dec_lt i n)
     go true is e d rest = absurd (false≢true (sym e))
     go false is e (yes below) rest = rest is below
     go false is e (no past) rest = let same : i ≡ n = omega arith in rw same e
-
--- one more is looked at: it is unusable, or it is not
-module _ (xs : List Float) (n : ℕ) {u : Bool} (is : u ≡ unusable_coefficient (get_or xs n nan)) where
-  pub some_next : u ≡ true → true ≡ some_unusable xs (n + 1)
-  unfolding some_unusable
-  some_next one = rw (add-one n) (sym (ap (λ (b : Bool). some_unusable xs n || b) (sym is ∙ one) ∙ or-true (some_unusable xs n)))
-
-  pub none_next : u ≡ false → some_unusable xs n ≡ some_unusable xs (n + 1)
-  unfolding some_unusable
-  none_next none = rw (add-one n) (sym (ap (λ (b : Bool). some_unusable xs n || b) (sym is ∙ none) ∙ or-false (some_unusable xs n)))
