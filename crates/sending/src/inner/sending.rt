@@ -36,8 +36,7 @@ fn check_run(table: &[u8], places: usize, first: usize, run: &[f32]) -> Result<(
     for place in 0..places {
         walk = walked(table, walk, place);
         let l = length(row_at(table, walk.row)).0;
-        let coordinate = first_at_fault(vector_at(run, from, l));
-        if coordinate < l {
+        if let Some(coordinate) = first_at_fault(vector_at(run, from, l)) {
             return Err(Refusal::UnusableCoefficientAt { place, coordinate });
         }
         from += l;

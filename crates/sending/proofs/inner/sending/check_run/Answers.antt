@@ -1,9 +1,10 @@
 -- `sending::inner::sending::check_run` refuses the lowest place at fault and its first coordinate at fault: while the
 -- places before it pass, what is left of the checks decides.
-use Rattle.std.proofs.Common.{rules, sym, ◌∙◌}
+use Rattle.std.proofs.Common.{rules, length, sym, ap, ◌∙◌}
 use native.Mathlib.Omega.{arith}
 use Rattle.runs.proofs.Judging.{all_left, none_left, usable_says, place_11, place_passes}
-use Rattle.runs.proofs.Way.{begins, its_length, part_in, its_vector, goes_on, next_fits}
+use Rattle.runs.proofs.Positions.{vector_length}
+use Rattle.runs.proofs.Way.{begins, part_in, its_vector, goes_on, next_fits}
 use Rattle.sending.proofs.Opened.{place_0, inside}
 use Rattle.sending.proofs.inner.sending.check_run.Goals as goal
 
@@ -29,8 +30,8 @@ vector_at-requires c =
     let h = inside c.requires.opened i.place (search rules) in
     part_in i.invariant.0 h c.walked-walk.ensures c.row_at.ensures.0 c.length-l.ensures c.args.run.now c.requires.run_long
 
-pub returns-then-coordinate-l : goal.returns-then-coordinate-l
-returns-then-coordinate-l c =
+pub returns-in-Some : goal.returns-in-Some
+returns-in-Some c =
     let t = c.args.table.now in
     let run = c.args.run.now in
     let i = c.loop-place in
@@ -39,8 +40,8 @@ returns-then-coordinate-l c =
     let is_row = c.row_at.ensures.0 in
     let l = c.length-l.ensures in
     let vector = its_vector i.invariant.0 h at_row is_row l run c.requires.run_long c.vector_at.ensures in
-    place_11 t run c.requires.run_long h vector c.first_at_fault-coordinate.ensures i.invariant.1
-    (omega (arith, c.if-coordinate-l.true, its_length i.invariant.0 h at_row is_row l))
+    place_11 t run c.requires.run_long h vector c.in-Some.ensures.1 i.invariant.1
+    (omega (arith, c.in-Some.ensures.0, ap length vector, vector_length t run c.requires.run_long i.place h))
 
 pub overflow_add-from : goal.overflow_add-from
 overflow_add-from c =
@@ -58,8 +59,8 @@ loop-place-preserved c =
     let l = c.length-l.ensures in
     let vector = its_vector i.invariant.0 h at_row is_row l run c.requires.run_long c.vector_at.ensures in (
       goes_on i.invariant.0 h at_row is_row l,
-      place_passes t run c.requires.run_long h vector c.first_at_fault-coordinate.ensures i.invariant.1
-          (omega (arith, c.if-coordinate-l.false, its_length i.invariant.0 h at_row is_row l)),
+      place_passes t run c.requires.run_long h vector c.in_default.ensures i.invariant.1
+          (omega (arith, ap length vector, vector_length t run c.requires.run_long i.place h)),
     )
 
 pub returns : goal.returns
