@@ -1,5 +1,5 @@
 // The run of a file of coefficients, each f32 as its four bytes, high byte first; and the page that it is sent for.
-ghost use Rattle.std.specs.Prelude.{◌≡◌, ◌+◌, ◌*◌, ◌≤◌, ◌<◌, length, get_or, take, drop};
+ghost use Rattle.std.specs.Prelude.{◌≡◌, ◌*◌, ◌≤◌, length, take};
 ghost use Rattle.octets.specs.Octets.{from_high};
 ghost use Rattle.tables.specs.BookNumbers.{one_book, only_book};
 ghost use Rattle.runs.specs.File.{run_of, run_room};
@@ -10,21 +10,11 @@ use floats::inner::from_pattern;
 use sending::{Sending, send};
 use tables::{Book, Books, ONE_BOOK, ONLY_BOOK};
 
-fn byte(bytes: &[u8], at: usize) -> u32
-    requires { at < length bytes.now }
-    ensures { (result ≡ get_or bytes.now at 0) × (result < 256) }
+// The number that four bytes stand for.
+fn pattern(four: [u8; 4]) -> u32
+    ensures { result ≡ from_high four }
 {
-    bytes[at] as u32
-}
-
-// The number that the four bytes from `at` on stand for.
-fn pattern(bytes: &[u8], at: usize) -> u32
-    requires { at + 4 ≤ length bytes.now }
-    ensures { result ≡ from_high (take 4 (drop at bytes.now)) }
-{
-    let high = 256 * byte(bytes, at) + byte(bytes, at + 1);
-    let low = 256 * byte(bytes, at + 2) + byte(bytes, at + 3);
-    65536 * high + low
+    u32::from_be_bytes(four)
 }
 
 // The coefficients of all the bytes, or none where they are no whole number of fours; how many they are.
@@ -32,16 +22,15 @@ pub fn run_of(bytes: &[u8], out: &mut [f32]) -> usize
     requires { length bytes.now ≤ 4 * length out.old }
     ensures { (result ≤ length out.new) × (take result out.new ≡ run_of bytes.now) }
 {
-    if bytes.len() % 4 != 0 {
+    let (fours, rest) = bytes.as_chunks::<4>();
+    if !rest.is_empty() {
         return 0;
     }
-    let count = bytes.len() / 4;
-    let mut i = 0;
-    while i < count {
-        out[i] = from_pattern(pattern(bytes, 4 * i));
-        i += 1;
+    // Stored by number: the proof of a zip with `out` stayed open at what it has written.
+    for (i, four) in fours.iter().enumerate() {
+        out[i] = from_pattern(pattern(*four));
     }
-    count
+    fours.len()
 }
 
 // The call send for the run of these bytes, in a page of one book.
