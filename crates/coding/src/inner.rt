@@ -32,39 +32,27 @@ fn measure(coefficients: &[f32], magnitudes: &mut [u32]) -> u32
 }
 
 // The codeword of a radius above 0. `magnitudes` holds those of the coefficients, and after share() those of the
-// point; it and the two after it are room to work in.
-fn codeword(
-    numbering: Numbering,
-    total: u32,
-    coefficients: &[f32],
-    magnitudes: &mut [u32],
-    rests: &mut [u32],
-    point: &mut [i32],
-) -> u64
-    requires { Codable numbering total coefficients.now magnitudes.old
-        × (length rests.old ≡ length coefficients.now) × (length point.old ≡ length coefficients.now) }
+// point.
+fn codeword(numbering: Numbering, total: u32, coefficients: &[f32], magnitudes: &mut [u32]) -> u64
+    requires { Codable numbering total coefficients.now magnitudes.old }
     ensures { result ≡ index_in numbering (point_of numbering.radius.0 coefficients.now) }
 {
-    share(numbering.radius.0, total, magnitudes, rests);
-    write_signed(coefficients, magnitudes, point);
-    index(numbering, point)
+    let n = coefficients.len();
+    let mut rests = [0; 16];
+    let mut point = [0; 16];
+    share(numbering.radius.0, total, magnitudes, &mut rests[..n]);
+    write_signed(coefficients, magnitudes, &mut point[..n]);
+    index(numbering, &point[..n])
 }
 
-// The radius number and the codeword; the last three are room to work in. At radius 0 the point is zero, and its
-// index 0.
-fn code(
-    row: &[u8],
-    coefficients: &[f32],
-    magnitudes: &mut [u32],
-    rests: &mut [u32],
-    point: &mut [i32],
-) -> Coded
-    requires { IsRow row.now × (length coefficients.now ≡ length_of row.now) × AllUsable coefficients.now
-        × (length magnitudes.old ≡ length coefficients.now) × (length rests.old ≡ length coefficients.now)
-        × (length point.old ≡ length coefficients.now) }
+// The radius number and the codeword. At radius 0 the point is zero, and its index 0.
+fn code(row: &[u8], coefficients: &[f32]) -> Coded
+    requires { IsRow row.now × (length coefficients.now ≡ length_of row.now) × AllUsable coefficients.now }
     ensures { (result.number ≡ radius_number_for row.now coefficients.now)
         × (result.codeword ≡ codeword_for row.now coefficients.now) }
 {
+    let mut room = [0; 16];
+    let magnitudes = &mut room[..coefficients.len()];
     let total = measure(coefficients, magnitudes);
     let number = choose(row, total as usize);
     let numbering = of_row(row, number);
@@ -74,7 +62,7 @@ fn code(
             codeword: 0,
         };
     }
-    let codeword = codeword(numbering, total, coefficients, magnitudes, rests, point);
+    let codeword = codeword(numbering, total, coefficients, magnitudes);
     Coded { number, codeword }
 }
 
@@ -83,16 +71,6 @@ pub fn write_record(row: &[u8], named: Named, coefficients: &[f32], out: &mut [u
     requires { Accepted row.now coefficients.now out.old × InField named }
     ensures { out.new ≡ record_named named row.now coefficients.now }
 {
-    let n = coefficients.len();
-    let mut magnitudes = [0u32; 16];
-    let mut rests = [0u32; 16];
-    let mut point = [0i32; 16];
-    let coded = code(
-        row,
-        coefficients,
-        &mut magnitudes[..n],
-        &mut rests[..n],
-        &mut point[..n],
-    );
+    let coded = code(row, coefficients);
     write(named, coded.number as u64, coded.codeword, out);
 }

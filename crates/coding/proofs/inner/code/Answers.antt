@@ -1,4 +1,5 @@
--- The chosen radius number, and the index of the point at its radius.
+-- The chosen radius number, and the index of the point at its radius. As much of the room is lent as the vector is
+-- long.
 use Rattle.std.proofs.Common.{◌∙◌}
 use Rattle.coding.proofs.Coding.{number_is, codeword_is, zero_coded, codable}
 use Rattle.coding.proofs.inner.code.Goals as goal
@@ -13,12 +14,9 @@ returns-then-numbering-eq0 c =
 
 pub codeword-codeword-requires : goal.codeword-codeword-requires
 codeword-codeword-requires c =
-    let measured = c.measure-total.ensures in (
-      codable c.args.coefficients.now measured.0 c.choose-number.ensures.0 c.of_row-numbering.ensures c.requires.0.row_good c.requires.2 c.requires.1
-          c.if-numbering-eq0.false measured.1,
-      c.requires.4,
-      c.requires.5,
-    )
+    let measured = c.measure-total.ensures in
+    codable c.args.coefficients.now measured.0 c.choose-number.ensures.0 c.of_row-numbering.ensures c.requires.0.row_good c.requires.2 c.requires.1
+    c.if-numbering-eq0.false measured.1
 
 pub returns : goal.returns
 returns c =
