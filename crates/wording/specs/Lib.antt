@@ -1,2 +1,3 @@
 pub mod Text
 pub mod Example
+pub mod Kinds
