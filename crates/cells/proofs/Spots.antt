@@ -11,8 +11,8 @@ use Rattle.cells.specs.Spots.{SpotIn, page_there, cell_there}
 use Rattle.cells.specs.declared.inner.spot.Spot.{Spot}
 
 module _ (pg : List ℕ) (spot : Spot) (inside : SpotIn pg spot) where
-  pub page_there_lem : length (page_there pg spot) ≡ page_length spot.cells
-  page_there_lem = converted_size spot.layout layouts.CellByCell spot.cells pg inside.size
+  pub page_there_lem : length (page_there pg spot) ≡ page_length spot.position.cells
+  page_there_lem = converted_size spot.position.layout layouts.CellByCell spot.position.cells pg inside
 
-  pub stays : set_cell (page_there pg spot) spot.cell (cell_there pg spot) ≡ page_there pg spot
-  stays = set_back layouts.CellByCell spot.cells (page_there pg spot) page_there_lem spot.cell inside.below
+  pub stays : set_cell (page_there pg spot) spot.position.cell (cell_there pg spot) ≡ page_there pg spot
+  stays = set_back layouts.CellByCell spot.position.cells (page_there pg spot) page_there_lem spot.position.cell spot.position.below

@@ -1,24 +1,20 @@
 -- A page in another layout: it has the same length and the same cells; the way back gives the page itself, and so does
 -- a way from a layout to itself; and a cell that is set in one is set in the other.
-use Prim.Native.Nat.{ℕ, zero, suc, ◌+◌, ◌-◌, ◌≤◌, ◌<◌}
+use Prim.Native.Nat.{ℕ, zero, suc, ◌+◌, ◌≤◌, ◌<◌}
 use mathlib.Core.Bool.{Bool, true, false}
 use mathlib.Core.List.{List}
 use mathlib.Core.Path.{◌≡◌, refl, sym, ap, ◌∙◌}
 use native.Mathlib.Decide.{dec_lt}
 use native.Mathlib.Omega.{arith}
-use lib.ListN.{length, get_or, set, take, drop, length-set}
+use lib.ListN.{length}
 use borrow.Author.Tests.{eq-eqb}
-use borrow.Rule.Slice.PartMut.{put_mid}
 use Rattle.answers.proofs.Lengths.{right_length}
-use Rattle.buffers.proofs.Writing.{wrote_part}
-use Rattle.buffers.specs.Written.{written}
 use Rattle.records.specs.Record.{record_length}
 use Rattle.layout.specs.Converting.{moved, converted, cell_by_cell}
-use Rattle.layout.specs.Layout.{Cell, page_length, page_length_check, state_offset, record_offset, state_from, record_from, stored, cell_in, set_in, cell_at, set_cell, empty_page}
+use Rattle.layout.specs.Layout.{Cell, page_length, page_length_check, cell_in, set_in, cell_at, set_cell, empty_page}
 use Rattle.layout.specs.declared.Layout.{Layout}
 use Rattle.layout.specs.declared.Layout.TheVariants as layouts
-use Rattle.layout.proofs.Cells.{length_record, page_ext, set_size, cell_set_same, cell_set_other, is_set, empty_size, empty_cell_lem}
-use Rattle.layout.proofs.Offsets.{record_inside}
+use Rattle.layout.proofs.Cells.{same_cell, length_record, page_ext, set_size, cell_set_same, cell_set_other, is_set, empty_size, empty_cell_lem}
 
 module _ (from to : Layout) (n : ℕ) (pg : List ℕ) where
   -- ---- a page of n cells
@@ -99,16 +95,6 @@ converted_through from by to n pg = go (page_length_check n (length pg)).fails r
 pub converted_back : (from to : Layout) (n : ℕ) (pg : List ℕ) → converted to from n (converted from to n pg) ≡ pg
 converted_back from to n pg = converted_through from to from n pg ∙ converted_same from n pg
 
--- ---- a cell of a page of n cells, cell by cell, by where its parts stand
-module _ (layout : Layout) (n : ℕ) (pg : List ℕ) (size : length pg ≡ page_length n) (c : ℕ) (h : c < n) where
-  pub state_stands : get_or pg (state_offset layout n c) 0 ≡ (cell_at (cell_by_cell layout n pg) c).state
-  unfolding state_from
-  state_stands = ap (λ (cell : Cell). cell.state) (sym (converted_cell layout layouts.CellByCell n pg size c h))
-
-  pub record_stands : take record_length (drop (record_offset layout n c) pg) ≡ (cell_at (cell_by_cell layout n pg) c).bytes
-  unfolding record_from
-  record_stands = ap (λ (cell : Cell). cell.bytes) (sym (converted_cell layout layouts.CellByCell n pg size c h))
-
 -- ---- a cell that is set in a page of n cells
 module _ (from to : Layout) (n : ℕ) (pg : List ℕ) (size : length pg ≡ page_length n) (p : ℕ) (h : p < n) (c : Cell) (eight : length c.bytes ≡ record_length) where
   pub converted_set : converted from to n (set_in from n pg p c) ≡ set_in to n (converted from to n pg) p c
@@ -118,20 +104,6 @@ module _ (from to : Layout) (n : ℕ) (pg : List ℕ) (size : length pg ≡ page
       is_set to n (converted from to n pg) (converted_size from to n pg size) p h c eight (converted from to n q) (converted_size from to n q q_size)
       (converted_cell from to n q q_size p h ∙ cell_set_same from n pg size p h c eight)
       (λ o g apart. converted_cell from to n q q_size o g ∙ cell_set_other from n pg size p h c eight o g apart ∙ sym (converted_cell from to n pg size o g))
-
-  -- by where its parts are put: the state, and then the record in place of as many bytes
-  put : put_mid (record_offset from n p) 8 (set pg (state_offset from n p) c.state) c.bytes ≡ set_in from n pg p c
-  unfolding stored
-  put =
-      let held = set pg (state_offset from n p) c.state in
-      let room : record_offset from n p + 8 ≤ length held = rw (length-set pg (state_offset from n p) c.state) (omega (arith, record_inside from n p h)) in
-      (wrote_part held c.bytes (record_offset from n p) 8 eight room).made ∙ ap (written held (record_offset from n p) c.bytes) eight
-
-  pub put_set : {s r : ℕ} {bytes : List ℕ} → s ≡ state_offset from n p → r ≡ record_offset from n p → bytes ≡ c.bytes
-      → converted from to n (put_mid r (r + 8 - r) (set pg s c.state) bytes) ≡ set_in to n (converted from to n pg) p c
-  put_set {r = r} here there same =
-      let as_many : r + 8 - r ≡ 8 = omega arith in
-      rw (as_many, here, there, same) (ap (converted from to n) put ∙ converted_set)
 
 -- ---- an empty page is empty in each layout
 pub empty_converted : (from to : Layout) (n : ℕ) → converted from to n (empty_page n) ≡ empty_page n
@@ -145,9 +117,11 @@ module _ (from to : Layout) (n : ℕ) (pg : List ℕ) where
 
   module _ (size : length pg ≡ page_length n) where
     -- one more
-    pub same_next : (m : ℕ) (other after : List ℕ) → length other ≡ page_length n → m < n → SameTo m other
-        → cell_by_cell to n after ≡ set_cell (cell_by_cell to n other) m (cell_at (cell_by_cell from n pg) m) → SameTo (m + 1) after
-    same_next m other after other-size h same did c k = ap (λ (q : List ℕ). cell_at q c) did ∙ go (dec_lt c m)
+    pub same_next : (m : ℕ) (other after : List ℕ) {state : ℕ} {bytes : List ℕ} → length other ≡ page_length n → m < n → SameTo m other
+        → state ≡ (cell_at (cell_by_cell from n pg) m).state → bytes ≡ (cell_at (cell_by_cell from n pg) m).bytes
+        → cell_by_cell to n after ≡ set_cell (cell_by_cell to n other) m (record { state = state; bytes = bytes }) → SameTo (m + 1) after
+    same_next m other after other-size h same its_state its_bytes did c k =
+        ap (λ (q : List ℕ). cell_at q c) (did ∙ ap (set_cell (cell_by_cell to n other) m) (same_cell its_state its_bytes)) ∙ go (dec_lt c m)
       where
         cells_size : length (cell_by_cell to n other) ≡ page_length n
         cells_size = converted_size to layouts.CellByCell n other other-size

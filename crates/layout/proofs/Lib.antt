@@ -2,4 +2,5 @@ pub mod Offsets
 pub mod Cells
 pub mod Books
 pub mod Converting
+pub mod Positions
 pub mod Example

@@ -1,4 +1,4 @@
 pub mod Layout
 pub mod Converting
-pub mod Bounds
+pub mod Positions
 pub mod Example

@@ -4,7 +4,7 @@
 
 pub mod inner;
 
-ghost use Rattle.std.specs.Prelude.{◌≡◌};
+ghost use Rattle.std.specs.Prelude.{◌≡◌, ◌≤◌, ◌<◌};
 ghost use Rattle.layout.specs.Layout.{layout_of};
 
 // How a page is kept. Pages of both layouts have one length, so whoever lends a page says which one it is.
@@ -26,4 +26,14 @@ impl From<usize> for Layout {
             _ => Layout::StatesFirst,
         }
     }
+}
+
+// Which cell of a page is meant: how the page is kept, how many cells it has, at most 16 x 4,096, and the cell's number.
+#[derive(Clone, Copy)]
+pub struct Position {
+    pub layout: Layout,
+    pub cells: usize,
+    pub cell: usize,
+    ghost cells_to: { cells ≤ 65536 },
+    ghost below: { cell < cells },
 }

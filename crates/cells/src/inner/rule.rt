@@ -26,8 +26,8 @@ pub fn bad_at(page: &[u8], spot: Spot) -> bool
 {
     bad_cell(
         spot.named,
-        state_at(spot.layout, page, spot.cells, spot.cell),
-        record_at(spot.layout, page, spot.cells, spot.cell),
+        state_at(page, spot.position),
+        record_at(page, spot.position),
     )
 }
 
@@ -36,13 +36,12 @@ pub fn bad_at(page: &[u8], spot: Spot) -> bool
 fn take_cell(page: &mut [u8], spot: Spot, bytes: &[u8])
     requires { SpotIn page.old spot × (length bytes.now ≡ record_length) }
     ensures { page_there page.new spot
-        ≡ set_cell (page_there page.old spot) spot.cell (take_cell bytes.now (cell_there page.old spot)) }
+        ≡ set_cell (page_there page.old spot) spot.position.cell (take_cell bytes.now (cell_there page.old spot)) }
 {
-    match state_at(spot.layout, page, spot.cells, spot.cell) {
-        0 => set_cell(spot.layout, page, spot.cells, spot.cell, 1, bytes),
-        1 if record_at(spot.layout, page, spot.cells, spot.cell) != bytes => {
-            set_cell(spot.layout, page, spot.cells, spot.cell, 2, &[0; 8])
-        }
+    let at = spot.position;
+    match state_at(page, at) {
+        0 => set_cell(page, at, 1, bytes),
+        1 if record_at(page, at) != bytes => set_cell(page, at, 2, &[0; 8]),
         _ => {}
     }
 }
@@ -52,7 +51,7 @@ fn take_cell(page: &mut [u8], spot: Spot, bytes: &[u8])
 pub fn arrive(page: &mut [u8], spot: Spot, bytes: &[u8]) -> bool
     requires { SpotIn page.old spot × (length bytes.now ≡ record_length) }
     ensures { (result ≡ bad_there page.old spot)
-        × (page_there page.new spot ≡ set_cell (page_there page.old spot) spot.cell
+        × (page_there page.new spot ≡ set_cell (page_there page.old spot) spot.position.cell
         (arrive_cell spot.named.book spot.named.place spot.named.row bytes.now (cell_there page.old spot))) }
 {
     if bad_at(page, spot) {

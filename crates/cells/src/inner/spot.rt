@@ -1,17 +1,14 @@
 // The cell of a place: which cell of a page is meant, and what its record is to name.
 ghost use Rattle.cells.specs.Spots.{Locatable, IsSpot};
 
-use layout::Layout;
 use layout::inner::{cell, cells};
+use layout::{Layout, Position};
 use records::inner::Named;
 
-// How a page is kept, how many cells it has, which of them is that of a place, and the book, the place and the row that
-// a record in it is to name.
+// Which cell of a page is meant, and the book, the place and the row that a record in it is to name.
 #[derive(Clone, Copy)]
 pub struct Spot {
-    pub layout: Layout,
-    pub cells: usize,
-    pub cell: usize,
+    pub position: Position,
     pub named: Named,
 }
 
@@ -20,10 +17,10 @@ pub fn locate(layout: Layout, places: usize, books: usize, named: Named) -> Spot
     requires { Locatable places books named }
     ensures { IsSpot layout places books named result }
 {
-    Spot {
+    let position = Position {
         layout,
         cells: cells(places, books),
         cell: cell(places, named.book, named.place),
-        named,
-    }
+    };
+    Spot { position, named }
 }
