@@ -13,10 +13,8 @@ use Rattle.tables.specs.Table.{row_of}
 use Rattle.records.specs.Naming.{IsNamed}
 use Rattle.records.specs.Record.{record_check, place_in, row_in}
 use Rattle.records.specs.declared.inner.Named.{Named}
-use Rattle.layout.proofs.Cells.{set_back}
 use Rattle.layout.specs.Layout.{set_cell}
 use Rattle.layout.specs.declared.Layout.{Layout}
-use Rattle.layout.specs.declared.Layout.TheVariants as layouts
 use Rattle.cells.specs.Spots.{Locatable, IsSpot, SpotIn, page_there, cell_there, bad_there}
 use Rattle.cells.specs.declared.inner.spot.Spot.{Spot}
 use Rattle.cells.proofs.Spots as spots
@@ -86,7 +84,7 @@ module _ (layout : Layout) {t : List ℕ} {books : ℕ} (page : List ℕ) {place
             -- `bad` is what was found of the cell, `left` what was made of the page
             module _ {bad : Bool} (found : bad ≡ bad_there page spot) (left : List ℕ)
                 (made : page_there left spot
-                ≡ set_cell (page_there page spot) spot.cell (arrive_cell spot.named.book spot.named.place spot.named.row x (cell_there page spot))) where
+                ≡ set_cell (page_there page spot) spot.position.cell (arrive_cell spot.named.book spot.named.place spot.named.row x (cell_there page spot))) where
               found_is : {b : Bool} → bad ≡ b → bad_at t pg named.book named.place ≡ b
               found_is same = rw (← own_row, ← its_bytes, ← located.is_named) (sym found ∙ same)
 
@@ -94,7 +92,7 @@ module _ (layout : Layout) {t : List ℕ} {books : ℕ} (page : List ℕ) {place
               take_12 e =
                   let there = page_there page spot in
                   let back : page_there left spot ≡ there =
-                  made ∙ rw (sym found ∙ e) (set_back layouts.CellByCell spot.cells there (spots.page_there_lem page spot its_cell) spot.cell its_cell.below) in
+                  made ∙ rw (sym found ∙ e) (spots.stays page spot its_cell) in
                   let kept : as_cells layout t books left ≡ pg = sym (its_page left) ∙ back ∙ its_page page in
                   rw (eight, ← is.is_book, some_book books named.book in_books, ← is.is_place, some_place t named.place ready.is_places h, row_byte own, found_is e)
                   (refl, kept)

@@ -20,7 +20,7 @@ use Rattle.tables.specs.Row.{IsRow}
 use Rattle.tables.specs.Table.{places_in, row_of, row_for, Good, survey_says}
 use Rattle.tables.specs.Way.{AtRow}
 use Rattle.records.specs.declared.inner.Named.{Named}
-use Rattle.layout.proofs.Books.{cells_to, cell_below}
+use Rattle.layout.proofs.Books.{cells_to}
 use Rattle.layout.specs.Layout.{cells_of, page_length_check}
 use Rattle.layout.specs.declared.Layout.{Layout}
 use Rattle.cells.specs.Spots.{Locatable, IsSpot, SpotIn, page_there, cell_there, bad_there}
@@ -60,12 +60,7 @@ module _ (t : List ℕ) (books : ℕ) (shared : GoodBooks t books) {places : ℕ
 
   module _ {layout : Layout} {spot : Spot} (located : IsSpot layout places books named spot) where
     pub spot_in : (pg : List ℕ) → Sized t books pg → SpotIn pg spot
-    spot_in pg size =
-        record {
-          size = rw (located.is_cells, is_places) size;
-          cells_to = rw located.is_cells (cells_to places books locatable.places_to locatable.books_to);
-          below = rw (located.is_cells, located.is_cell) (cell_below places books named.book named.place in_books locatable.in_book_lem);
-        }
+    spot_in pg size = rw (located.is_cells, is_places) size
 
     pub page_there_lem : (pg : List ℕ) → page_there pg spot ≡ as_cells layout t books pg
     page_there_lem pg = rw (located.is_layout, located.is_cells, is_places) refl

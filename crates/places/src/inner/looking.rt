@@ -15,13 +15,11 @@ pub fn judge_at(mode: Mode, row: &[u8], page: &[u8], spot: Spot) -> Seen
     requires { IsRow row.now × SpotIn page.now spot }
     ensures { Sees mode.0 row.now (cell_there page.now spot) result }
 {
-    let layout = spot.layout;
-    let state = state_at(layout, page, spot.cells, spot.cell);
     judge(
         mode,
         row,
-        state,
-        record_at(layout, page, spot.cells, spot.cell),
+        state_at(page, spot.position),
+        record_at(page, spot.position),
     )
 }
 
