@@ -2,8 +2,9 @@
 // that the refusal names; `meaning` in specs/Refusals.antt gives each case the number and the values of the rules.
 #![tactic(auto)]
 
-ghost use Rattle.std.specs.Prelude.{◌≡◌};
-ghost use Rattle.answers.specs.Refusals.{number_of, first_named, second_named, named_by};
+ghost use Rattle.std.specs.Prelude.{◌≡◌, List, ℕ};
+ghost use Rattle.answers.specs.Checks.{number_said};
+ghost use Rattle.answers.specs.Refusals.{number_of, first_named, second_named, named_by, result_meaning};
 
 #[derive(Clone, Copy, Debug, PartialEq, Eq)]
 pub enum Refusal {
@@ -80,4 +81,14 @@ pub fn number(refusal: Refusal) -> u32
     ensures { result ≡ number_of refusal }
 {
     in_numbers(refusal).0
+}
+
+// The number that an answer says first, whatever else is told: 0, or its refusal's.
+pub fn number_said<T: Copy>(answer: Result<T, Refusal>) -> u32
+    ensures { (tells : T → List ℕ) → result ≡ number_said (result_meaning tells answer) }
+{
+    match answer {
+        Ok(_) => 0,
+        Err(refusal) => number(refusal),
+    }
 }

@@ -4,18 +4,16 @@
 #![tactic(auto)]
 
 ghost use Rattle.std.specs.Prelude.{◌≡◌};
-ghost use Rattle.answers.specs.Checks.{number_said};
-ghost use Rattle.conversion.specs.Meanings.{conversion_meaning};
 ghost use Rattle.layout.specs.declared.Layout.TheVariants as layouts;
 ghost use Rattle.rules.specs.Layouts.{convert_leaves};
 ghost use Rattle.slate.specs.Given.{version, count_gives, take_gives, take_keeps, convert_gives};
 
-use answers::number;
-use conversion::{Conversion, to_cell_by_cell, to_states_first};
+use answers::number_said;
+use conversion::{to_cell_by_cell, to_states_first};
 use counts::{Length, Radius};
 use layout::Layout;
-use page::{Arrival, take};
-use shell::{Counted, count};
+use page::take;
+use shell::count;
 use tables::Books;
 
 // The version of the calls and of what they are lent.
@@ -29,10 +27,7 @@ pub fn aldrynja_version() -> u32
 pub fn aldrynja_count(length: u64, radius: u64) -> u64
     ensures { result ≡ count_gives length radius }
 {
-    match count(Length(length as usize), Radius(radius as usize)) {
-        Counted::Points(n) => n,
-        Counted::Refused(_) => 0,
-    }
+    count(Length(length as usize), Radius(radius as usize)).unwrap_or(0)
 }
 
 // The call take on a page that is kept states first: 0, or the number of the refusal.
@@ -40,26 +35,13 @@ pub fn aldrynja_take(table: &[u8], books: u64, states_first: &mut [u8], bytes: &
     ensures { (result ≡ take_gives table.now books states_first.old bytes.now)
         × (states_first.new ≡ take_keeps table.now books states_first.old bytes.now) }
 {
-    match take(
+    number_said(take(
         table,
         Books(books as usize),
         Layout::StatesFirst,
         states_first,
         bytes,
-    ) {
-        Arrival::Taken => 0,
-        Arrival::Refused(refusal) => number(refusal),
-    }
-}
-
-// The number of what a conversion answers.
-fn conversion_number(conversion: Conversion) -> u32
-    ensures { result ≡ number_said (conversion_meaning conversion) }
-{
-    match conversion {
-        Conversion::Converted => 0,
-        Conversion::Refused(refusal) => number(refusal),
-    }
+    ))
 }
 
 // The call to_states_first, for a page that was kept cell by cell: 0, or the number of the refusal.
@@ -73,7 +55,7 @@ pub fn aldrynja_to_states_first(
         × (states_first.new ≡ convert_leaves layouts.CellByCell layouts.StatesFirst
         table.now books cell_by_cell.now states_first.old) }
 {
-    conversion_number(to_states_first(table, Books(books as usize), cell_by_cell, states_first))
+    number_said(to_states_first(table, Books(books as usize), cell_by_cell, states_first))
 }
 
 // The call to_cell_by_cell, the way back: 0, or the number of the refusal.
@@ -87,5 +69,5 @@ pub fn aldrynja_to_cell_by_cell(
         × (cell_by_cell.new ≡ convert_leaves layouts.StatesFirst layouts.CellByCell
         table.now books states_first.now cell_by_cell.old) }
 {
-    conversion_number(to_cell_by_cell(table, Books(books as usize), states_first, cell_by_cell))
+    number_said(to_cell_by_cell(table, Books(books as usize), states_first, cell_by_cell))
 }
