@@ -111,8 +111,8 @@ impl Case<'_> {
         bytes(rt, page);
     }
 
-    // Move 0 0 0: the page from its layout into the other one; what the call says, and the other page then. What arrives
-    // is what the other page holds before.
+    // Move 0 0 0: the page from its layout into the other one; what the call says, and the other page then. What
+    // arrives is what the other page holds before.
     fn convert(self, rt: &impl Print) {
         let Case {
             shelf,
