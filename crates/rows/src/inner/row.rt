@@ -13,8 +13,7 @@ pub fn row_at(table: &[u8], number: usize) -> &[u8]
     ensures { (result.now ≡ row_at table.now number) × (listed.length result.now ≡ row_length) }
 {
     let from = 16 * number;
-    let to = from + 16;
-    &table[from..to]
+    &table[from..from + 16]
 }
 
 // Byte `at` of a row.

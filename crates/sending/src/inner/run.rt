@@ -25,6 +25,5 @@ pub fn vector_at(run: &[f32], from: usize, l: usize) -> &[f32]
     requires { from + l ≤ listed.length run.now }
     ensures { result.now ≡ listed.take l (listed.drop from run.now) }
 {
-    let to = from + l;
-    &run[from..to]
+    &run[from..from + l]
 }
