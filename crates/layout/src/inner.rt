@@ -1,6 +1,6 @@
 // The cells of a page and its length, and a cell's state and record in it, read and changed, in each layout. What is
 // told of a page is told of it cell by cell.
-ghost use Rattle.std.specs.Prelude.{◌≡◌, ◌+◌, ◌≤◌, ◌<◌, length};
+ghost use Rattle.std.specs.Prelude.{◌≡◌, ◌≤◌, ◌<◌, length};
 ghost use Rattle.records.specs.Record.{record_length};
 ghost use Rattle.layout.specs.Converting.{converted};
 ghost use Rattle.layout.specs.Layout.{cells_of, cell_of, page_length, page_length_check, state_offset, record_offset, set_cell};

@@ -28,7 +28,8 @@ impl From<usize> for Layout {
     }
 }
 
-// Which cell of a page is meant: how the page is kept, how many cells it has, at most 16 x 4,096, and the cell's number.
+// Which cell of a page is meant: how the page is kept, how many cells it has, at most 16 x 4,096, and the number of the
+// cell, which is one of them.
 #[derive(Clone, Copy)]
 pub struct Position {
     pub layout: Layout,

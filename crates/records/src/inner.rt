@@ -1,9 +1,11 @@
-// A record's fields, written into its bytes and read from them.
-ghost use Rattle.std.specs.Prelude.{◌≡◌, ◌%◌, ◌^◌, ◌<◌, length, get_or};
-ghost use Rattle.records.specs.Record.{record_length, record_check, same_bytes, field_of, record_of, radius_number_in, codeword_in};
+// A record's fields, written into its bytes and read from them. A record is a slice, and no array of 8 bytes: the calls
+// take, collect and quantize are lent bytes of any length, and refuse what is no record (wrong_record).
+ghost use Rattle.std.specs.Prelude.{◌≡◌, ◌%◌, ◌^◌, ◌<◌, length};
+ghost use Rattle.records.specs.Record.{record_length, record_check, field_of, record_of, radius_number_in, codeword_in};
 ghost use Rattle.records.specs.Naming.{IsNamed, InField};
 
-// What a record names: the book, the place in that book, and the row of the place.
+// What a record names: the book, the place in that book, and the row of the place. That book and place fit their field
+// is asked where a record is written (InField), and not of a name that is only compared.
 #[derive(Clone, Copy, PartialEq, Eq)]
 pub struct Named {
     pub book: usize,
@@ -34,6 +36,7 @@ fn field(named: Named) -> u16
 }
 
 // The book and the place, the row, the radius number and the codeword.
+#[tactic(auto, using(crate::proofs::Bytes::record_stored))]
 pub fn write(named: Named, number: u64, codeword: u64, out: &mut [u8])
     requires { InField named × (length out.old ≡ record_length) }
     ensures { out.new ≡ record_of named.book named.place named.row number codeword }
@@ -65,6 +68,7 @@ pub fn radius_number_in(bytes: &[u8]) -> usize
     usize::from(bytes[3])
 }
 
+// The codeword.
 pub fn codeword_in(bytes: &[u8]) -> u64
     requires { length bytes.now ≡ record_length }
     ensures { (result ≡ codeword_in bytes.now) × (result < 2 ^ 32) }
