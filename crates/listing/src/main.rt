@@ -9,31 +9,36 @@ mod inner;
 
 ghost use Rattle.std.specs.Prelude.{◌≤◌};
 
-use files::inner::printing::print_refused;
+use files::inner::printing::{End, print_end};
 use files::inner::reading::read_table;
 use inner::input::take_records;
 use inner::output::print_page;
 use layout::inner::{BOOK_ROOM, page_length};
-use pairing::{Checked, check};
+use pairing::check;
 use std::rt::Files;
 
 // Lists a page of one book, which has so many places.
-fn list(rt: &(impl Files + Print + Eprint), table: &[u8], places: usize)
+fn list_page(rt: &(impl Files + Print + Eprint), table: &[u8], places: usize) -> Result<(), End>
     requires { places ≤ 4096 }
 {
     let mut room = [0u8; BOOK_ROOM];
     let size = page_length(places);
     let page = &mut room[..size];
     let refused = take_records(rt, table, page);
-    print_page(rt, table, page, places, refused);
+    print_page(rt, table, page, places, refused)
+}
+
+// Lists the page of the table that is read, if the table is good.
+fn list(rt: &(impl Files + Print + Eprint)) -> Result<(), End> {
+    let mut room = [0u8; 513];
+    let size = read_table(rt, &mut room);
+    let table = &room[..size];
+    let places = check(table)?;
+    list_page(rt, table, places)
 }
 
 fn main(rt: HostRuntime) {
-    let mut room = [0u8; 513];
-    let size = read_table(&rt, &mut room);
-    let table = &room[..size];
-    match check(table) {
-        Checked::Places(places) => list(&rt, table, places),
-        Checked::Refused(refusal) => print_refused(&rt, refusal),
+    if let Err(end) = list(&rt) {
+        print_end(&rt, end);
     }
 }

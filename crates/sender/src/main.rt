@@ -8,16 +8,16 @@ mod inner;
 
 ghost use Rattle.std.specs.Prelude.{◌≤◌};
 
+use answers::Refusal;
 use files::inner::printing::print_refused;
 use files::inner::reading::{read_file, read_table};
 use inner::run::send_bytes;
 use inner::writing::write_records;
-use pairing::{Checked, check};
-use sending::Sending;
+use pairing::check;
 use std::rt::Files;
 
 // Sends a page of so many places. A file of coefficients is read as far as it tells whether its run is too long.
-fn send_page(rt: &(impl Files + Print + Eprint), table: &[u8], places: usize)
+fn send_page(rt: &(impl Files + Eprint), table: &[u8], places: usize) -> Result<(), Refusal>
     requires { places ≤ 4096 }
 {
     let mut room = [0u8; 262148];
@@ -25,18 +25,22 @@ fn send_page(rt: &(impl Files + Print + Eprint), table: &[u8], places: usize)
     let mut out = [0u8; 32768];
     let end = 8 * places;
     let records = &mut out[..end];
-    match send_bytes(table, &room[..size], records) {
-        Sending::Written => write_records(rt, records),
-        Sending::Refused(refusal) => print_refused(rt, refusal),
-    }
+    send_bytes(table, &room[..size], records)?;
+    write_records(rt, records);
+    Ok(())
+}
+
+// Sends the page of the table that is read, if the table is good.
+fn send(rt: &(impl Files + Eprint)) -> Result<(), Refusal> {
+    let mut room = [0u8; 513];
+    let size = read_table(rt, &mut room);
+    let table = &room[..size];
+    let places = check(table)?;
+    send_page(rt, table, places)
 }
 
 fn main(rt: HostRuntime) {
-    let mut room = [0u8; 513];
-    let size = read_table(&rt, &mut room);
-    let table = &room[..size];
-    match check(table) {
-        Checked::Places(places) => send_page(&rt, table, places),
-        Checked::Refused(refusal) => print_refused(&rt, refusal),
+    if let Err(refusal) = send(&rt) {
+        print_refused(&rt, refusal);
     }
 }

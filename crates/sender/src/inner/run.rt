@@ -6,8 +6,9 @@ ghost use Rattle.runs.specs.File.{run_of, run_room};
 ghost use Rattle.runs.specs.Sending.{send_says, send_leaves};
 ghost use Rattle.sending.specs.Meanings.{send_meaning};
 
+use answers::Refusal;
 use floats::inner::from_pattern;
-use sending::{Sending, send};
+use sending::send;
 use tables::{Book, Books, ONE_BOOK, ONLY_BOOK};
 
 // The number that four bytes stand for.
@@ -34,7 +35,7 @@ pub fn run_of(bytes: &[u8], out: &mut [f32]) -> usize
 }
 
 // The call send for the run of these bytes, in a page of one book.
-pub fn send_bytes(table: &[u8], bytes: &[u8], records: &mut [u8]) -> Sending
+pub fn send_bytes(table: &[u8], bytes: &[u8], records: &mut [u8]) -> Result<(), Refusal>
     requires { length bytes.now ≤ run_room }
     ensures { (send_meaning result ≡ send_says table.now one_book only_book (run_of bytes.now) records.old)
         × (records.new ≡ send_leaves table.now one_book only_book (run_of bytes.now) records.old) }

@@ -1,6 +1,6 @@
--- What each turn of the loop keeps in `listing::inner::output::print_page`, and what falls with each turn.
+-- What each turn of the loop keeps in `listing::inner::output::print_lines`, and what falls with each turn.
 use Rattle.std.proofs.Common.{◌≡◌, ◌-◌, ◌≤◌, length}
-use Rattle.listing.proofs.inner.output.print_page.Given as goal
+use Rattle.listing.proofs.inner.output.print_lines.Given as goal
 
 abbrev pub invariant-loop-from : goal.invariant-loop-from
 invariant-loop-from g l = (l.from ≤ 4096) × (length l.out ≡ 65536)
