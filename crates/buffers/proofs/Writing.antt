@@ -1,13 +1,10 @@
 -- A buffer that is written one element after the other.
---     none_written, fills, fills_map, fills_with     nothing yet; one element more by a store: any, of a mapped
---                                                    list, a constant
+--     fills, fills_map                               one element more by a store: any, of a mapped list
 --     not_reached, written_length                    what is not written yet is as it was; so is the length
 --     written_between, begins_with                   the text stands between two parts that are as they were, or
 --                                                    before one
---     all_written, all_with, all_behind              the whole buffer is written: any, a constant, an element and
---                                                    others behind it
---     wrote_none, wrote_one, wrote_part, wrote_all   a text is written: nothing, one element, a part that was lent, all
---                                                    that a loop wrote
+--     all_written                                    the whole buffer is written
+--     wrote_none, wrote_one, wrote_part              a text is written: nothing, one element, a part that was lent
 --     wrote_then, wrote_to, wrote_length             one text behind another; another bound; the buffer is as long
 --                                                    as before
 use Prim.Native.Nat.{ℕ, zero, suc, ◌+◌, ◌≤◌, ◌<◌}
@@ -16,15 +13,12 @@ use mathlib.Core.Path.{◌≡◌, refl, sym, ap, ◌∙◌}
 use native.Mathlib.Nat.{add-zero, zero-add}
 use native.Mathlib.Numerals.{add-one}
 use native.Mathlib.Omega.{arith}
-use lib.ListN.{length, get_or, set, take, drop, replicate, length-append, length-map, length-replicate, get_or-replicate, drop_of_length-le, get_or-map}
+use lib.ListN.{length, get_or, set, take, drop, length-append, length-map, drop_of_length-le, get_or-map}
 use lib.Seq.{length-sets, sets-eq, get_or-set_other, take_all, take-length, drop-drop}
 use Rattle.buffers.specs.Written.{written, Wrote}
 
 module _ {A : Type 0} where
   -- ---- on the way
-  pub none_written : (held made : List A) (at : ℕ) → held ≡ written held at made 0
-  none_written held made at = refl
-
   next : (held made : List A) (at i : ℕ) (d : A) → i < length made → set (written held at made i) (at + i) (get_or made i d) ≡ written held at made (suc i)
   next held [] at i d h = absurd (omega arith)
   next held (x ∷ made) at zero d h = rw (add-zero at) refl
@@ -36,11 +30,6 @@ module _ {A : Type 0} where
   pub fills : {so_far : List A} {place : ℕ} {v : A} (held made : List A) (at i : ℕ) (d : A) → i < length made → place ≡ at + i → v ≡ get_or made i d
       → so_far ≡ written held at made i → set so_far place v ≡ written held at made (i + 1)
   fills held made at i d below here is-next filled = rw (filled, is-next, here, add-one i) (next held made at i d below)
-
-  -- a constant
-  pub fills_with : {so_far : List A} {place : ℕ} (held : List A) (x : A) (at n i : ℕ) → i < n → place ≡ at + i
-      → so_far ≡ written held at (replicate n x) i → set so_far place x ≡ written held at (replicate n x) (i + 1)
-  fills_with held x at n i below here filled = fills held (replicate n x) at i x (rw (length-replicate n x) below) here (sym (get_or-replicate n i x x below)) filled
 
   unwritten : (held made : List A) (at i : ℕ) (d : A) → get_or (written held at made i) (at + i) d ≡ get_or held (at + i) d
   unwritten held made at zero d = refl
@@ -69,12 +58,6 @@ module _ {A : Type 0} where
       let whole = rw (take-length made) at (begins_with held made (omega arith)) in
       rw (take_all i made (omega arith)) (whole ∙ rw (drop_of_length-le held {i = length made} (omega arith)) (append-nil made))
 
-  pub all_with : (held : List A) (x : A) (i : ℕ) → length held ≤ i → written held 0 (replicate (length held) x) i ≡ replicate (length held) x
-  all_with held x i from = all_written held (replicate (length held) x) i from (length-replicate (length held) x)
-
-  pub all_behind : (held made : List A) (x : A) (i : ℕ) → length made ≤ i → suc (length made) ≡ length held → written (set held 0 x) 1 made i ≡ x ∷ made
-  all_behind held made x i from same = all_written held (x ∷ made) (suc i) (omega arith) same
-
   -- ---- texts
   pub wrote_none : (held : List A) (at : ℕ) → Wrote held at [] 0 at held
   wrote_none held at = record { ends = omega arith; made = refl; to = omega arith }
@@ -92,10 +75,6 @@ module _ {A : Type 0} where
         (sym (written_between held part at (omega arith) ∙ append_assoc (take at held) part (drop (at + length part) held)));
     to = omega arith;
   }
-
-  pub wrote_all : {held so_far : List A} {at i : ℕ} (text : List A) → i ≡ length text → so_far ≡ written held at text i
-      → Wrote held at text (length text) (at + i) so_far
-  wrote_all text all filled = record { ends = omega arith; made = rw all at filled; to = omega arith }
 
   together : (held s t : List A) (at : ℕ) → written (written held at s (length s)) (at + length s) t (length t) ≡ written held at (s ++ t) (length (s ++ t))
   together held [] t at = rw (add-zero at) refl
