@@ -9,15 +9,10 @@ use lib.ListN.{length, take, drop}
 use Rattle.tables.proofs.Walking.{its_row, walks_here, walks_on}
 use Rattle.tables.specs.Row.{length_of}
 use Rattle.tables.specs.Table.{row_at, places_in, length_for}
-use Rattle.tables.specs.Way.{Walked, AtRow}
+use Rattle.tables.specs.Way.{AtRow}
 use Rattle.runs.specs.Run.{coordinates_before, coordinates_in, vector_for}
+use Rattle.runs.specs.Way.{Reached}
 use Rattle.runs.proofs.Positions.{none_before, before_next, before_to, ends_within}
-
--- place p is reached, and its coordinates begin at `from`
-pub record Reached (t : List ℕ) (row end from p : ℕ) : Type 0 where
-  pub to : p ≤ places_in t
-  pub on : Walked t row end p
-  pub is_from : from ≡ coordinates_before t p
 
 -- the way begins at place 0
 pub begins : {t : List ℕ} {row end : ℕ} → AtRow t row end 0 → Reached t row end 0 0

@@ -1,4 +1,4 @@
 pub mod OneToOne
-pub mod Opened
+pub mod Measured
 pub mod Records
 pub mod Counted

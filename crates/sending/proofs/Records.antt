@@ -10,7 +10,7 @@ use Rattle.buffers.proofs.Joining.{joined_none, joined_more}
 use Rattle.buffers.proofs.Writing.{wrote_none, all_written}
 use Rattle.buffers.specs.Joined.{joined}
 use Rattle.buffers.specs.Written.{Wrote}
-use Rattle.tables.specs.Table.{row_at, places_in, row_of}
+use Rattle.tables.specs.Table.{places_in, row_of, row_for}
 use Rattle.records.specs.Record.{record_length, record_of}
 use Rattle.coding.specs.Coded.{radius_number_for, codeword_for}
 use Rattle.runs.proofs.Records.{records_length_lem}
@@ -26,7 +26,7 @@ module _ (t : List ℕ) (book : ℕ) (run : List Float) where
   begins_records held = rw (joined_none (record_at t book run) 0) (wrote_none held 0)
 
   -- `row` is what is lent of the row of place p, n its number, and v what is lent of the run
-  pub record_more : {held x y row : List ℕ} {v : List Float} {n : ℕ} (p : ℕ) → n ≡ row_of t p → row ≡ row_at t n → v ≡ vector_for t run p → RecordsTo p held x
+  pub record_more : {held x y row : List ℕ} {v : List Float} {n : ℕ} (p : ℕ) → n ≡ row_of t p → row ≡ row_for t p → v ≡ vector_for t run p → RecordsTo p held x
       → Wrote x (record_length * p) (record_of book p n (radius_number_for row v) (codeword_for row v)) record_length (record_length * p + record_length) y
       → RecordsTo (p + 1) held y
   record_more {x = x} {y = y} p is_number is_row is-vector so_far one =

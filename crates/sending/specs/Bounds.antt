@@ -16,14 +16,13 @@ pub record Opened (t : List ℕ) (places first : ℕ) : Type 0 where
   pub is_places : places ≡ places_in t
   pub is_first : first ≡ row_of t 0
 
--- and a run as long as all coordinates together
+-- and a run as long as all coordinates together: what a Run keeps
 pub record Measured (t : List ℕ) (places first : ℕ) (run : List Float) : Type 0 where
   pub opened : Opened t places first
   pub run_long : length run ≡ coordinates_in t
 
--- of usable coefficients, with one of 16 books and a buffer of 8 bytes a place
-pub record Judged (t : List ℕ) (places first book : ℕ) (run : List Float) (held : List ℕ) : Type 0 where
-  pub measured : Measured t places first run
+-- a run of usable coefficients, with one of 16 books and a buffer of 8 bytes a place
+pub record Judged (t : List ℕ) (run : List Float) (book : ℕ) (held : List ℕ) : Type 0 where
   pub book_to : book < most_books
   pub all_usable : (p : ℕ) → p < places_in t → AllUsable (vector_for t run p)
   pub has_room : length held ≡ records_length t

@@ -10,38 +10,52 @@ ghost use Rattle.records.specs.Record.{record_length};
 ghost use Rattle.coding.specs.Coded.{record_named};
 ghost use Rattle.runs.specs.Sending.{run_checks, send_rest, records_of};
 ghost use Rattle.sending.specs.Meanings.{send_meaning};
-ghost use Rattle.sending.specs.Bounds.{Opened, Measured, Writable, Judged};
+ghost use Rattle.sending.specs.Bounds.{Opened, Writable, Judged};
 
-use crate::inner::run::{coordinates, vector_at};
+use crate::inner::run::coordinates;
+use crate::inner::way::Run;
 use answers::Refusal;
 use coding::inner::write_record;
 use coefficients::inner::coefficients::{first_at_fault, some_unusable};
 use pairing::inner::survey::Surveyed;
-use pairing::inner::walking::{walk_from, walked};
 use records::inner::Named;
-use rows::inner::row::{length, row_at};
 use tables::Book;
 
-// Whether every coefficient is usable, or the refusal that names the lowest place at fault, and its first coordinate
-// at fault. The places are gone through only if some coefficient is unusable.
-fn check_run(table: &[u8], places: usize, first: usize, run: &[f32]) -> Result<(), Refusal>
-    requires { Measured table.now places first run.now }
-    ensures { verdict_meaning result ≡ first_of (run_checks table.now run.now) (0 ∷ []) }
-{
-    if !some_unusable(run) {
-        return Ok(());
-    }
-    let mut walk = walk_from(table, first, 0);
-    let mut from = 0;
-    for place in 0..places {
-        walk = walked(table, walk, place);
-        let l = length(row_at(table, walk.row)).0;
-        if let Some(coordinate) = first_at_fault(vector_at(run, from, l)) {
-            return Err(Refusal::UnusableCoefficientAt { place, coordinate });
+impl Run<'_> {
+    // Whether every coefficient is usable, or the refusal that names the lowest place at fault, and its first
+    // coordinate at fault. The places are gone through only if some coefficient is unusable.
+    fn check_run(&self) -> Result<(), Refusal>
+        ensures { verdict_meaning result ≡ first_of (run_checks self.now.table.now self.now.coefficients.now) (0 ∷ []) }
+    {
+        if !some_unusable(self.coefficients) {
+            return Ok(());
         }
-        from += l;
+        let mut way = self.way();
+        for place in 0..self.places {
+            let vector = self.next(&mut way, place).vector;
+            if let Some(coordinate) = first_at_fault(vector) {
+                return Err(Refusal::UnusableCoefficientAt { place, coordinate });
+            }
+        }
+        Ok(())
     }
-    Ok(())
+
+    // The records of all places, in place order.
+    fn write_records(&self, book: Book, out: &mut [u8])
+        requires { Judged self.now.table.now self.now.coefficients.now book.0 out.old }
+        ensures { out.new ≡ records_of self.now.table.now book.0 self.now.coefficients.now }
+    {
+        let mut way = self.way();
+        for place in 0..self.places {
+            let stop = self.next(&mut way, place);
+            let named = Named {
+                book: book.0,
+                place,
+                row: stop.number,
+            };
+            write_at(stop.row, named, stop.vector, out);
+        }
+    }
 }
 
 // The record of a vector in this row, with the book, the place and the row's number that it is to name, where the
@@ -54,28 +68,6 @@ fn write_at(row: &[u8], named: Named, coefficients: &[f32], out: &mut [u8])
     let from = 8 * named.place;
     let to = from + 8;
     write_record(row, named, coefficients, &mut out[from..to]);
-}
-
-// The records of all places of a book, in place order.
-fn write_records(table: &[u8], places: usize, first: usize, book: Book, run: &[f32], out: &mut [u8])
-    requires { Judged table.now places first book.0 run.now out.old }
-    ensures { out.new ≡ records_of table.now book.0 run.now }
-{
-    let mut walk = walk_from(table, first, 0);
-    let mut from = 0;
-    for place in 0..places {
-        walk = walked(table, walk, place);
-        let number = walk.row;
-        let row = row_at(table, number);
-        let l = length(row).0;
-        let named = Named {
-            book: book.0,
-            place,
-            row: number,
-        };
-        write_at(row, named, vector_at(run, from, l), out);
-        from += l;
-    }
 }
 
 // What send does with books, a table and a book that passed: the checks 4, 4 and 11, and the work.
@@ -99,7 +91,13 @@ pub fn send_run(
     if out.len() != 8 * surveyed.places {
         return Err(Refusal::BufferLength);
     }
-    check_run(table, surveyed.places, surveyed.row, run)?;
-    write_records(table, surveyed.places, surveyed.row, book, run, out);
+    let run = Run {
+        table,
+        places: surveyed.places,
+        first: surveyed.row,
+        coefficients: run,
+    };
+    run.check_run()?;
+    run.write_records(book, out);
     Ok(())
 }

@@ -1,8 +1,8 @@
 -- `sending::inner::sending::send_run` says and leaves what the call send is to say and leave behind the checks of the
 -- books, the table and the book: refusals 4, 4 and 11, and the buffer as it was; or the records of all places.
-use Rattle.std.proofs.Common.{[], length, ◌*◌, refl, sym, ap, ◌∙◌}
+use Rattle.std.proofs.Common.{[], length, ◌*◌, sym, ap, ◌∙◌}
 use native.Mathlib.Omega.{arith}
-use borrow.Author.Tests.{eq-eqb, ne_eqb}
+use borrow.Author.Tests.{eq-eqb}
 use Rattle.std.proofs.lemmas.Result.{err_from_is_err_and}
 use Rattle.answers.proofs.InOrder.{refusal_leaves, passes_leaves}
 use Rattle.tables.proofs.Good.{places_to}
@@ -12,22 +12,8 @@ use Rattle.runs.specs.Run.{coordinates_in}
 use Rattle.runs.specs.Sending.{records_length, run_checks, records_of}
 use Rattle.sending.proofs.inner.sending.send_run.Goals as goal
 
-pub returns-then-run-coordinates : goal.returns-then-run-coordinates
-returns-then-run-coordinates c =
-    rw (ne_eqb (length c.args.run.now) (coordinates_in c.args.table.now) (λ same. c.if-run-coordinates.true (same ∙ sym c.coordinates.ensures))) (refl, refl)
-
 pub overflow_mul-surveyed : goal.overflow_mul-surveyed
 overflow_mul-surveyed c = omega (arith, c.requires.0.is_places, places_to c.args.table.now c.requires.0.good)
-
-pub returns-then-out-surveyed : goal.returns-then-out-surveyed
-returns-then-out-surveyed c =
-    let t = c.args.table.now in
-    let long = c.if-run-coordinates.false ∙ c.coordinates.ensures in
-    rw (
-      eq-eqb (length c.args.run.now) (coordinates_in t) long,
-      ne_eqb (length c.args.out.now) (records_length t) (λ same. c.if-out-surveyed.true (same ∙ ap (λ n. record_length * n) (sym c.requires.0.is_places))),
-    )
-    (refl, refl)
 
 pub write_records-requires : goal.write_records-requires
 write_records-requires c =
@@ -36,7 +22,6 @@ write_records-requires c =
     let said = c.in_ok-check_run.ensures in
     let long = c.if-run-coordinates.false ∙ c.coordinates.ensures in
     record {
-      measured = record { opened = c.requires.0; run_long = long };
       book_to = c.requires.1;
       all_usable = run_usable t run long (says_run t run said);
       has_room = c.if-out-surveyed.false ∙ ap (λ n. record_length * n) c.requires.0.is_places;

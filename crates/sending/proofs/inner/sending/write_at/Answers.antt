@@ -1,16 +1,11 @@
 -- `sending::inner::sending::write_at` lends the place's part of the buffer and has the record written there.
-use Rattle.std.proofs.Common.{rules, ◌+◌, ◌-◌, ◌*◌, ◌≡◌}
+use Rattle.std.proofs.Common.{◌+◌, ◌-◌, ◌*◌, ◌≡◌}
 use native.Mathlib.Omega.{arith}
 use Rattle.buffers.proofs.Writing.{wrote_part}
 use Rattle.records.proofs.Fields.{record_length_lem}
 use Rattle.records.specs.Record.{record_length}
 use Rattle.coding.specs.Coded.{radius_number_for, codeword_for, record_named}
 use Rattle.sending.proofs.inner.sending.write_at.Goals as goal
-
-pub write_record-requires : goal.write_record-requires
-write_record-requires c =
-    let p = c.requires in
-    (record { is_row = p.is_row; of_length = p.of_length; all_usable = p.usable; has_room = search rules }, p.in_field)
 
 pub returns : goal.returns
 returns c =
