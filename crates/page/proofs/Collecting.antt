@@ -1,15 +1,15 @@
 -- What collect does, part by part: a take that is answered with a refusal counts 1, and what is left of the run
 -- decides.
-use Prim.Native.Nat.{ℕ, ◌+◌, ◌-◌, ◌/◌, ◌≤◌, ◌<◌, min}
+use Prim.Native.Nat.{ℕ, ◌+◌, ◌/◌, ◌≤◌, ◌<◌, min}
 use mathlib.Core.Bool.{Bool, true}
-use mathlib.Core.List.{List, [], ◌∷◌}
+use mathlib.Core.List.{List, [], ◌∷◌, ◌++◌}
 use mathlib.Core.Path.{◌≡◌, refl, sym, ap, ap₂, ◌∙◌}
 use native.Mathlib.Decide.{dec_lt}
 use native.Mathlib.Nat.{zero-add, min-eq_left, min-eq_right}
 use native.Mathlib.Omega.{arith}
 use lib.Dec.{lit<}
-use lib.ListN.{length, take, drop, length-drop, drop_of_length-le}
-use lib.Seq.{take_all, drop-drop}
+use lib.ListN.{length, take, drop, length-append, drop_of_length-le}
+use lib.Seq.{take_all, take-append_seam, drop-append_seam}
 use Rattle.answers.proofs.InOrder.{Numbered, says_passes, passes_fails, fails_then, refusal_fails, passed_leaves}
 use Rattle.answers.specs.Checks.{any_of, first_of, leaves, fails_of, Passes}
 use Rattle.answers.specs.Refusals.{meaning}
@@ -35,48 +35,46 @@ module _ (t : List ℕ) (books : ℕ) (pg : List ℕ) (ready : Passes (page_chec
   unfolding refusals
   counts_1 r said = rw (fails_by (refusal_fails [] (take_rest t books pg x) r said)) refl
 
--- the part from `at` to `end`
-module _ (bytes : List ℕ) (at end : ℕ) (is_end : end ≡ min (at + 8) (length bytes)) (h : at < length bytes) where
-  part_is : take (end - at) (drop at bytes) ≡ take 8 (drop at bytes)
-  part_is = go (dec_lt (length bytes) (at + 8))
+-- a part is cut off what is left of the run: eight bytes, or all of them
+module _ (left part rest : List ℕ) (cut : left ≡ part ++ rest) (long : length part ≡ min 8 (length left)) (more : 0 < length left) where
+  first_is : take 8 left ≡ part
+  first_is = go (dec_lt (length left) 8) ∙ ap (take (length part)) cut ∙ take-append_seam part rest
     where
-      go : Dec (length bytes < at + 8) → take (end - at) (drop at bytes) ≡ take 8 (drop at bytes)
+      go : Dec (length left < 8) → take 8 left ≡ take (length part) left
       go (yes short) =
-          let last : end ≡ length bytes = is_end ∙ min-eq_right (omega arith) in
-          let all = length-drop at bytes in
-          take_all (end - at) (drop at bytes) (omega arith) ∙ sym (take_all 8 (drop at bytes) (omega arith))
-      go (no long) =
-          let next : end ≡ at + 8 = is_end ∙ min-eq_left (omega arith) in
-          let eight : end - at ≡ 8 = omega arith in
-          rw eight refl
+          let all : length part ≡ length left = long ∙ min-eq_right (omega arith) in
+          take_all 8 left (omega arith) ∙ sym (take_all (length part) left (omega arith))
+      go (no far) = let eight : length part ≡ 8 = long ∙ min-eq_left (omega arith) in rw eight refl
 
-  rest_is : drop 8 (drop at bytes) ≡ drop end bytes
-  rest_is = drop-drop 8 at bytes ∙ go (dec_lt (length bytes) (at + 8))
+  rest_is : drop 8 left ≡ rest
+  rest_is = go (dec_lt (length left) 8) ∙ ap (drop (length part)) cut ∙ drop-append_seam part rest
     where
-      go : Dec (length bytes < at + 8) → drop (at + 8) bytes ≡ drop end bytes
+      go : Dec (length left < 8) → drop 8 left ≡ drop (length part) left
       go (yes short) =
-          let last : end ≡ length bytes = is_end ∙ min-eq_right (omega arith) in
-          drop_of_length-le bytes {i = at + 8} (omega arith) ∙ sym (drop_of_length-le bytes {i = end} (omega arith))
-      go (no long) = let next : end ≡ at + 8 = is_end ∙ min-eq_left (omega arith) in rw next refl
+          let all : length part ≡ length left = long ∙ min-eq_right (omega arith) in
+          drop_of_length-le left {i = 8} (omega arith) ∙ sym (drop_of_length-le left {i = length part} (omega arith))
+      go (no far) = let eight : length part ≡ 8 = long ∙ min-eq_left (omega arith) in rw eight refl
 
-  parts_step : parts_of (drop at bytes) ≡ take (end - at) (drop at bytes) ∷ parts_of (drop end bytes)
-  parts_step =
-      parts_next (drop at bytes) (rw (length-drop at bytes) (omega arith))
-      ∙ ap₂ (λ (x rest : List ℕ). x ∷ parts_of rest) (sym part_is) rest_is
+  parts_step : parts_of left ≡ part ∷ parts_of rest
+  parts_step = parts_next left more ∙ ap₂ (λ (x after : List ℕ). x ∷ parts_of after) first_is rest_is
+
+  -- a part has a byte, so a refusal more is no more than the bytes that are gone
+  pub shorter : (refused one all : ℕ) → refused + length left ≤ all → one ≤ 1 → refused + one + length rest ≤ all
+  shorter refused one all h one_to = omega (arith, ap length cut ∙ length-append part rest, long, more)
 
   -- a turn: the part is taken, and what is left decides
-  pub collects : (t : List ℕ) (books : ℕ) (pg page : List ℕ) (refused more : ℕ) {left : Received}
-      → page ≡ take_leaves t books pg (take (end - at) (drop at bytes)) → more ≡ refusals t books pg (take (end - at) (drop at bytes))
-      → after t books (record { page = pg; refused = refused }) (parts_of (drop at bytes)) ≡ left
-      → after t books (record { page = page; refused = refused + more }) (parts_of (drop end bytes)) ≡ left
+  pub collects : (t : List ℕ) (books : ℕ) (pg page : List ℕ) (refused one : ℕ) {all : Received}
+      → page ≡ take_leaves t books pg part → one ≡ refusals t books pg part
+      → after t books (record { page = pg; refused = refused }) (parts_of left) ≡ all
+      → after t books (record { page = page; refused = refused + one }) (parts_of rest) ≡ all
   unfolding after arrive
-  collects t books pg page refused more is-page is_more e = rw (is-page, is_more) (rw parts_step at e)
+  collects t books pg page refused one is-page is_one e = rw (is-page, is_one) (rw parts_step at e)
 
 -- nothing is left
-pub all_collected : (t : List ℕ) (books : ℕ) (pg bytes : List ℕ) (at refused : ℕ) {left : Received} → length bytes ≤ at
-    → after t books (record { page = pg; refused = refused }) (parts_of (drop at bytes)) ≡ left → record { page = pg; refused = refused } ≡ left
+pub all_collected : (t : List ℕ) (books : ℕ) (pg left : List ℕ) (refused : ℕ) {all : Received} → length left ≡ 0
+    → after t books (record { page = pg; refused = refused }) (parts_of left) ≡ all → record { page = pg; refused = refused } ≡ all
 unfolding after
-all_collected t books pg bytes at refused h e = rw (parts_none (drop at bytes) (rw (length-drop at bytes) (omega arith))) at e
+all_collected t books pg left refused none e = rw (parts_none left none) at e
 
 -- a number of books, a table or a page that is refused: every part is refused, and the page is as it was
 pub shut_collected : (t : List ℕ) (books : ℕ) (pg bytes : List ℕ) → any_of (fails_of (page_checks t books pg)) ≡ true

@@ -116,25 +116,11 @@ fn refusals_of(
     }
 }
 
-// Where the part that begins at `at` ends: eight bytes on, or at the end of the run.
-fn part_end(at: usize, bytes: usize) -> usize
-    requires { at < bytes }
-    ensures { (result ≡ min (at + 8) bytes) × (at < result) × (result ≤ bytes) }
-{
-    if bytes - at < 8 {
-        return bytes;
-    }
-    at + 8
-}
-
 // How many parts so many bytes have.
 pub fn parts(bytes: usize) -> usize
     ensures { result ≡ (bytes + 7) / 8 }
 {
-    if bytes % 8 == 0 {
-        return bytes / 8;
-    }
-    bytes / 8 + 1
+    bytes.div_ceil(8)
 }
 
 // What collect does with books, a table and a page that passed, by where the rows begin.
@@ -153,12 +139,9 @@ fn collect_parts(
         × (as_cells layout table.now books.0 page.new
         ≡ (collected table.now books.0 (as_cells layout table.now books.0 page.old) bytes.now).page) }
 {
-    let mut at = 0;
     let mut refused = 0;
-    while at < bytes.len() {
-        let end = part_end(at, bytes.len());
-        refused += refusals_of(table, places, books, starts, layout, page, &bytes[at..end]);
-        at = end;
+    for part in bytes.chunks(8) {
+        refused += refusals_of(table, places, books, starts, layout, page, part);
     }
     refused
 }
