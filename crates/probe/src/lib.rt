@@ -8,21 +8,21 @@ pub mod said;
 ghost use Rattle.std.specs.Prelude.{◌≡◌, get_or};
 ghost use Rattle.shell.specs.Shell.{count_says};
 ghost use Rattle.answers.specs.Checks.{number_said};
-ghost use Rattle.answers.specs.Refusals.{meaning};
+ghost use Rattle.answers.specs.Refusals.{meaning, one_number, result_meaning};
 ghost use Rattle.tables.specs.Table.{check_says};
 ghost use Rattle.pairing.specs.Meanings.{check_meaning};
 ghost use Rattle.indexing.specs.Calls.{index_says, point_says, point_leaves};
-ghost use Rattle.points.specs.Meanings.{point_meaning};
 ghost use Rattle.quantizer.specs.Calls.{quantize_meaning, quantize_says, quantize_leaves};
 ghost use Rattle.probe.specs.Coded.{coded, valued};
 
-use answers::{Refusal, in_numbers, number};
+use answers::{Refusal, in_numbers, number, number_said};
 use counts::{Length, Radius};
 use enumeration::Selector;
-use pairing::{Checked, check};
-use points::{Indexed, Pointed, index, point};
-use quantizer::{Quantized, quantize};
-use shell::{Counted, count};
+use pairing::check;
+use points::{index, point};
+use quantizer::quantize;
+use said::done_item;
+use shell::count;
 use tables::{Book, Books};
 
 // The code of a refusal.
@@ -32,34 +32,29 @@ fn refused(refusal: Refusal) -> u64
     (1 << 40) + number(refusal) as u64
 }
 
+// The code of a number that is answered, or of a refusal.
+#[tactic(auto, unfolding(crate::specs::Coded::coded))]
+fn code(answer: Result<u64, Refusal>) -> u64
+    ensures { result ≡ coded (result_meaning one_number answer) }
+{
+    match answer {
+        Ok(n) => n,
+        Err(refusal) => refused(refusal),
+    }
+}
+
 // The call count.
 pub fn probe_count(length: usize, radius: usize) -> u64
     ensures { result ≡ coded (count_says length radius) }
 {
-    match count(Length(length), Radius(radius)) {
-        Counted::Points(n) => n,
-        Counted::Refused(refusal) => refused(refusal),
-    }
+    code(count(Length(length), Radius(radius)))
 }
 
 // The call index.
 pub fn probe_index(selector: usize, length: usize, radius: usize, x: &[i32]) -> u64
     ensures { result ≡ coded (index_says selector length radius x.now) }
 {
-    match index(Selector(selector), Length(length), Radius(radius), x) {
-        Indexed::At(n) => n,
-        Indexed::Refused(refusal) => refused(refusal),
-    }
-}
-
-// An item of what point answers, as in `said`.
-fn point_item(answer: Pointed, which: usize) -> u64
-    ensures { result ≡ get_or (point_meaning answer) which 0 }
-{
-    match answer {
-        Pointed::Written => 0,
-        Pointed::Refused(refusal) => said::refused(refusal, which),
-    }
+    code(index(Selector(selector), Length(length), Radius(radius), x))
 }
 
 // The call point, by an item of what it says.
@@ -74,29 +69,19 @@ pub fn probe_point(
     ensures { (result ≡ get_or (point_says selector length radius n out.old) which 0)
         × (out.new ≡ point_leaves selector length radius n out.old) }
 {
-    point_item(
+    done_item(
         point(Selector(selector), Length(length), Radius(radius), n, out),
         which,
     )
 }
 
-// The number of what check answers: 0, or the refusal's.
-fn check_number(answer: Checked) -> u32
-    ensures { result ≡ number_said (check_meaning answer) }
-{
-    match answer {
-        Checked::Places(_) => 0,
-        Checked::Refused(refusal) => number(refusal),
-    }
-}
-
 // The value of what check answers: the number of places, or the row that the refusal names.
-fn check_value(answer: Checked) -> usize
+fn check_value(answer: Result<usize, Refusal>) -> usize
     ensures { result ≡ valued (check_meaning answer) }
 {
     match answer {
-        Checked::Places(n) => n,
-        Checked::Refused(refusal) => in_numbers(refusal).1,
+        Ok(n) => n,
+        Err(refusal) => in_numbers(refusal).1,
     }
 }
 
@@ -104,7 +89,7 @@ fn check_value(answer: Checked) -> usize
 pub fn probe_check(table: &[u8]) -> u32
     ensures { result ≡ number_said (check_says table.now) }
 {
-    check_number(check(table))
+    number_said(check(table))
 }
 
 // The call check, by its value.
@@ -114,23 +99,13 @@ pub fn probe_check_value(table: &[u8]) -> usize
     check_value(check(table))
 }
 
-// The number of what quantize answers: 0, or the refusal's.
-fn quantize_number(answer: Quantized) -> u32
-    ensures { result ≡ number_said (quantize_meaning answer) }
-{
-    match answer {
-        Quantized::Written => 0,
-        Quantized::Refused(refusal) => number(refusal),
-    }
-}
-
 // The value of what quantize answers: the row or the coordinate that a refusal names, else 0.
-fn quantize_value(answer: Quantized) -> usize
+fn quantize_value(answer: Result<(), Refusal>) -> usize
     ensures { result ≡ valued (quantize_meaning answer) }
 {
     match answer {
-        Quantized::Written => 0,
-        Quantized::Refused(refusal) => in_numbers(refusal).1,
+        Ok(()) => 0,
+        Err(refusal) => in_numbers(refusal).1,
     }
 }
 
@@ -146,7 +121,7 @@ pub fn probe_quantize(
     ensures { (result ≡ number_said (quantize_says table.now books book place coefficients.now out.old))
         × (out.new ≡ quantize_leaves table.now books book place coefficients.now out.old) }
 {
-    quantize_number(quantize(table, Books(books), Book(book), place, coefficients, out))
+    number_said(quantize(table, Books(books), Book(book), place, coefficients, out))
 }
 
 // The call quantize, by its value.

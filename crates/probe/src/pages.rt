@@ -11,10 +11,7 @@ ghost use Rattle.rules.specs.Tallying.{tally_says};
 ghost use Rattle.runs.specs.Sending.{send_says, send_leaves};
 ghost use Rattle.probe.specs.Coded.{positive_zero};
 
-use crate::said::{
-    coefficient_item, coefficient_value, conversion_item, lines_item, read_item, send_item,
-    take_item, tally_item,
-};
+use crate::said::{coefficient_value, done_item, lines_item, place_item, tally_item};
 use conversion::{to_cell_by_cell, to_states_first};
 use layout::Layout;
 use rules::Mode;
@@ -34,7 +31,7 @@ pub fn probe_take(
         × (page.new ≡ as_kept (layout_of layout) table.now books
         (take_leaves table.now books (as_cells (layout_of layout) table.now books page.old) bytes.now)) }
 {
-    take_item(
+    done_item(
         page::take(table, Books(books), Layout::from(layout), page, bytes),
         which,
     )
@@ -73,7 +70,7 @@ pub fn probe_read(
         × (out.new ≡ read_leaves mode table.now books book
         (as_cells (layout_of layout) table.now books page.now) place out.old) }
 {
-    read_item(
+    place_item(
         page::read(
             Mode(mode),
             table,
@@ -103,7 +100,7 @@ pub fn probe_coefficient(
     ensures { result ≡ get_or (coefficient_says mode table.now books book
         (as_cells (layout_of layout) table.now books page.now) place coordinate) which 0 }
 {
-    coefficient_item(
+    place_item(
         page::coefficient(
             Mode(mode),
             table,
@@ -214,7 +211,7 @@ pub fn probe_to_states_first(
         × (states_first.new ≡ convert_leaves layouts.CellByCell layouts.StatesFirst
         table.now books cell_by_cell.now states_first.old) }
 {
-    conversion_item(
+    done_item(
         to_states_first(table, Books(books), cell_by_cell, states_first),
         which,
     )
@@ -232,7 +229,7 @@ pub fn probe_to_cell_by_cell(
         × (cell_by_cell.new ≡ convert_leaves layouts.StatesFirst layouts.CellByCell
         table.now books states_first.now cell_by_cell.old) }
 {
-    conversion_item(
+    done_item(
         to_cell_by_cell(table, Books(books), states_first, cell_by_cell),
         which,
     )
@@ -250,7 +247,7 @@ pub fn probe_send(
     ensures { (result ≡ get_or (send_says table.now books book run.now out.old) which 0)
         × (out.new ≡ send_leaves table.now books book run.now out.old) }
 {
-    send_item(
+    done_item(
         sending::send(table, Books(books), Book(book), run, out),
         which,
     )

@@ -1,21 +1,16 @@
 // What a call says is a list: 0 and its values, or a refusal's number and what it names. `which` picks an item of it;
 // an item past the end is 0.
 ghost use Rattle.std.specs.Prelude.{◌≡◌, ◌∷◌, [], get_or};
-ghost use Rattle.answers.specs.Refusals.{meaning};
-ghost use Rattle.conversion.specs.Meanings.{conversion_meaning};
+ghost use Rattle.answers.specs.Refusals.{meaning, result_meaning, verdict_meaning};
 ghost use Rattle.report.specs.Meanings.{listed_meaning};
 ghost use Rattle.rules.specs.Judging.{reason_number, reason_distance};
-ghost use Rattle.sending.specs.Meanings.{send_meaning};
-ghost use Rattle.page.specs.Meanings.{take_meaning, answer_meaning, read_meaning, value_meaning, values_in};
-ghost use Rattle.page.specs.Meanings.{coefficient_meaning, coefficient_values, tally_meaning};
+ghost use Rattle.page.specs.Meanings.{answer_tells, answer_meaning, values_in, coefficient_values, tally_meaning};
 ghost use Rattle.probe.specs.Coded.{positive_zero};
 
 use answers::{Refusal, in_numbers};
-use conversion::Conversion;
-use page::{Answer, Arrival, Reading, Tallied, Value, Valued};
+use page::{Answer, Counts};
 use report::Listed;
 use rules::Reason;
-use sending::Sending;
 
 // An item of a refusal.
 pub fn refused(refusal: Refusal, which: usize) -> u64
@@ -63,102 +58,62 @@ fn unreadable(reason: Reason, which: usize) -> u64
     }
 }
 
-pub fn take_item(answer: Arrival, which: usize) -> u64
-    ensures { result ≡ get_or (take_meaning answer) which 0 }
+// An item of what a call says that has nothing to tell but that it is done.
+pub fn done_item(answer: Result<(), Refusal>, which: usize) -> u64
+    ensures { result ≡ get_or (verdict_meaning answer) which 0 }
 {
     match answer {
-        Arrival::Taken => 0,
-        Arrival::Refused(refusal) => refused(refusal, which),
+        Ok(()) => 0,
+        Err(refusal) => refused(refusal, which),
     }
 }
 
-pub fn conversion_item(answer: Conversion, which: usize) -> u64
-    ensures { result ≡ get_or (conversion_meaning answer) which 0 }
-{
-    match answer {
-        Conversion::Converted => 0,
-        Conversion::Refused(refusal) => refused(refusal, which),
-    }
-}
-
-pub fn send_item(answer: Sending, which: usize) -> u64
-    ensures { result ≡ get_or (send_meaning answer) which 0 }
-{
-    match answer {
-        Sending::Written => 0,
-        Sending::Refused(refusal) => refused(refusal, which),
-    }
-}
-
-fn answer_item(answer: Answer, which: usize) -> u64
+fn answer_item<T: Copy>(answer: Answer<T>, which: usize) -> u64
     ensures { result ≡ get_or (answer_meaning answer) which 0 }
 {
     match answer {
-        Answer::Sound => told(0, 0, which),
-        Answer::Mended { distance } => distant(1, 0, distance, which),
+        Answer::Sound(_) => told(0, 0, which),
+        Answer::Mended { value: _, distance } => distant(1, 0, distance, which),
         Answer::Missing => told(2, 0, which),
         Answer::Contested => told(3, 0, which),
         Answer::Unreadable(reason) => unreadable(reason, which),
     }
 }
 
-pub fn read_item(answer: Reading, which: usize) -> u64
-    ensures { result ≡ get_or (read_meaning answer) which 0 }
+// An item of what a call says that looks at a place: read, and coefficient.
+pub fn place_item<T: Copy>(answer: Result<Answer<T>, Refusal>, which: usize) -> u64
+    ensures { result ≡ get_or (result_meaning answer_tells answer) which 0 }
 {
     match answer {
-        Reading::Answered(answer) => answer_item(answer, which),
-        Reading::Refused(refusal) => refused(refusal, which),
-    }
-}
-
-fn value_item(value: Value, which: usize) -> u64
-    ensures { result ≡ get_or (value_meaning value) which 0 }
-{
-    match value {
-        Value::Sound(_) => told(0, 0, which),
-        Value::Mended { value: _, distance } => distant(1, 0, distance, which),
-        Value::Missing => told(2, 0, which),
-        Value::Contested => told(3, 0, which),
-        Value::Unreadable(reason) => unreadable(reason, which),
-    }
-}
-
-pub fn coefficient_item(answer: Valued, which: usize) -> u64
-    ensures { result ≡ get_or (coefficient_meaning answer) which 0 }
-{
-    match answer {
-        Valued::Answered(value) => value_item(value, which),
-        Valued::Refused(refusal) => refused(refusal, which),
+        Ok(answer) => answer_item(answer, which),
+        Err(refusal) => refused(refusal, which),
     }
 }
 
 // The value that is carried, or positive zero.
-fn carried(value: Value) -> f32
-    ensures { result ≡ get_or (values_in value) 0 positive_zero }
+fn carried(answer: Answer<f32>) -> f32
+    ensures { result ≡ get_or (values_in answer) 0 positive_zero }
 {
-    match value {
-        Value::Sound(v) => v,
-        Value::Mended { value, distance: _ } => value,
-        Value::Missing => 0.0,
-        Value::Contested => 0.0,
-        Value::Unreadable(_) => 0.0,
+    match answer {
+        Answer::Sound(value) | Answer::Mended { value, distance: _ } => value,
+        Answer::Missing | Answer::Contested | Answer::Unreadable(_) => 0.0,
     }
 }
 
-pub fn coefficient_value(answer: Valued) -> f32
+pub fn coefficient_value(answer: Result<Answer<f32>, Refusal>) -> f32
     ensures { result ≡ get_or (coefficient_values answer) 0 positive_zero }
 {
     match answer {
-        Valued::Answered(value) => carried(value),
-        Valued::Refused(_) => 0.0,
+        Ok(answer) => carried(answer),
+        Err(_) => 0.0,
     }
 }
 
-pub fn tally_item(answer: Tallied, which: usize) -> u64
+pub fn tally_item(answer: Result<Counts, Refusal>, which: usize) -> u64
     ensures { result ≡ get_or (tally_meaning answer) which 0 }
 {
     match answer {
-        Tallied::Counted(counts) => match which {
+        Ok(counts) => match which {
             1 => counts.sound as u64,
             2 => counts.mended as u64,
             3 => counts.missing as u64,
@@ -166,19 +121,19 @@ pub fn tally_item(answer: Tallied, which: usize) -> u64
             5 => counts.unreadable as u64,
             _ => 0,
         },
-        Tallied::Refused(refusal) => refused(refusal, which),
+        Err(refusal) => refused(refusal, which),
     }
 }
 
-pub fn lines_item(answer: Listed, which: usize) -> u64
+pub fn lines_item(answer: Result<Listed, Refusal>, which: usize) -> u64
     ensures { result ≡ get_or (listed_meaning answer) which 0 }
 {
     match answer {
-        Listed::Written { to, size } => match which {
-            1 => to as u64,
-            2 => size as u64,
+        Ok(listed) => match which {
+            1 => listed.to as u64,
+            2 => listed.size as u64,
             _ => 0,
         },
-        Listed::Refused(refusal) => refused(refusal, which),
+        Err(refusal) => refused(refusal, which),
     }
 }
