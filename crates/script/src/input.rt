@@ -3,7 +3,7 @@
 ghost use Rattle.std.specs.Io.KnownBytes.{Consumes};
 ghost use Rattle.std.specs.Prelude.{◌≡◌, ◌≤◌, length, slice_index, take};
 
-use filling::fill;
+use filling::inner::fill;
 use std::io::Read;
 
 // Fills the room with what comes, until it is full, the input ends or a read fails; how many bytes these are.

@@ -28,7 +28,7 @@ pub fn fill<F: Read>(rt: &impl Eprint, file: &mut F, path: &str, block: &mut [u8
     ensures part { result ≡ length (take result block.new) }
     ensures came { Consumes (F.remaining file.old) (F.remaining file.new) (take result block.new) }
 {
-    filling::fill(file, block, |error| tell(rt, path, error))
+    filling::inner::fill(file, block, |error| tell(rt, path, error))
 }
 
 // The bytes of a file, at most as many as there is room for.

@@ -1,7 +1,7 @@
--- What each turn of the loop keeps in `filling::fill`, and what falls with each turn.
+-- What each turn of the loop keeps in `filling::inner::fill`, and what falls with each turn.
 use Rattle.std.proofs.Common.{◌≡◌, ◌-◌, ◌≤◌, length, take}
 use Rattle.std.specs.Io.KnownBytes.{Consumes}
-use Rattle.filling.proofs.fill.Given as goal
+use Rattle.filling.proofs.inner.fill.Given as goal
 
 -- what came so far stands in front
 abbrev pub invariant-loop-filled : goal.invariant-loop-filled

@@ -1,7 +1,7 @@
--- `filling::fill` puts what comes next behind what came before.
+-- `filling::inner::fill` puts what comes next behind what came before.
 use Rattle.std.proofs.Common.{arith}
 use Rattle.filling.proofs.Filled.{came_more}
-use Rattle.filling.proofs.fill.Goals as goal
+use Rattle.filling.proofs.inner.fill.Goals as goal
 
 pub loop-filled-preserved : goal.loop-filled-preserved
 loop-filled-preserved g c =
