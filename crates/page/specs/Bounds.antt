@@ -7,18 +7,28 @@ use Rattle.tables.specs.Way.{Starts}
 use Rattle.records.specs.Record.{record_check, place_in, row_in}
 use Rattle.records.specs.declared.inner.Named.{Named}
 use Rattle.layout.specs.Layout.{Cell}
+use Rattle.rules.specs.Layouts.{as_cells}
 use Rattle.rules.specs.Reading.{read_rest, coefficient_rest}
 use Rattle.rules.specs.Taking.{page_checks, foreign_check}
+use Rattle.page.specs.declared.inner.opened.Opened.{Opened}
 
--- they passed their checks, and have so many places
+-- a page that is kept in a layout, cell by cell
+abbrev pub cells_in : Opened → List ℕ → List ℕ
+cells_in opened page = as_cells opened.layout opened.table.now opened.books.0 page
+
+-- a table, its books and a page passed their checks, and the table has so many places
 pub record Ready (t : List ℕ) (books : ℕ) (pg : List ℕ) (places : ℕ) : Type 0 where
   pub passes : Passes (page_checks t books pg)
   pub is_places : places ≡ places_in t
 
+-- so it is of what was opened and this page
+abbrev pub IsOpen : Opened → List ℕ → Type 0
+IsOpen opened page = Ready opened.table.now opened.books.0 (cells_in opened page) opened.places
+
 -- and where the rows of the table begin is known
-pub record Takes (t : List ℕ) (books : ℕ) (pg : List ℕ) (places : ℕ) (starts : List ℕ) : Type 0 where
-  pub ready : Ready t books pg places
-  pub begins : Starts t starts
+pub record Takes (opened : Opened) (page starts : List ℕ) : Type 0 where
+  pub ready : IsOpen opened page
+  pub begins : Starts opened.table.now starts
 
 -- the place that x names, and whether x names another row than r; what is no record names none
 abbrev pub place_named : List ℕ → ℕ

@@ -14,9 +14,9 @@ ghost use Rattle.page.specs.Meanings.{take_meaning, read_meaning, coefficient_me
 
 use answers::Refusal;
 use cells::inner::spot::locate;
+use inner::opened::Opened;
 use inner::reading::{coefficient_at, read_at};
-use inner::taking::{collect_records, names_other_row, parts, place_named, take_record};
-use inner::tallying::tally_page;
+use inner::taking::{names_other_row, parts, place_named};
 use layout::Layout;
 use places::inner::opening::{survey_look, survey_page, survey_whole};
 use records::inner::Named;
@@ -61,7 +61,13 @@ pub fn take(
 {
     let surveyed = survey_page(table, books, page, place_named(bytes))?;
     let foreign = names_other_row(bytes, surveyed.row);
-    take_record(table, surveyed.places, books, foreign, layout, page, bytes)
+    let opened = Opened {
+        table,
+        places: surveyed.places,
+        books,
+        layout,
+    };
+    opened.take_record(foreign, page, bytes)
 }
 
 // The call collect: a run of bytes, eight by eight and a shorter last part too, each taken in turn; how many takes
@@ -73,7 +79,15 @@ pub fn collect(table: &[u8], books: Books, layout: Layout, page: &mut [u8], byte
         (collected table.now books.0 (as_cells layout table.now books.0 page.old) bytes.now).page) }
 {
     match survey_page(table, books, page, 0) {
-        Ok(surveyed) => collect_records(table, surveyed.places, books, layout, page, bytes),
+        Ok(surveyed) => {
+            let opened = Opened {
+                table,
+                places: surveyed.places,
+                books,
+                layout,
+            };
+            opened.collect_records(page, bytes)
+        }
         Err(_) => parts(bytes.len()),
     }
 }
@@ -145,14 +159,11 @@ pub fn tally(
         ≡ tally_says mode.0 table.now books.0 book.0 (as_cells layout table.now books.0 page.now) }
 {
     let surveyed = survey_whole(mode, table, books, book, page)?;
-    tally_page(
-        mode,
+    let opened = Opened {
         table,
-        surveyed.places,
+        places: surveyed.places,
         books,
-        book,
-        surveyed.row,
         layout,
-        page,
-    )
+    };
+    opened.tally_page(mode, book, surveyed.row, page)
 }
