@@ -1,5 +1,5 @@
--- A coordinate of the code, an i32, as a whole number: what the code tests of it, that it is zero, by its bits, and that
--- it is negative. A value z fits 32 bits with a sign, so its magnitude is at most 2^31, the lowest value's.
+-- A coordinate of the code, an i32, as a whole number: what the code tests of it, that it is zero, by its bits, and
+-- that it is negative. A value z fits 32 bits with a sign, so its magnitude is at most 2^31, the lowest value's.
 use Prim.Native.Nat.{zero, suc, ◌^◌, ◌≤◌}
 use mathlib.Core.Path.{◌≡◌, refl, ap, ◌∙◌}
 use mathlib.Core.Bool.{true}
