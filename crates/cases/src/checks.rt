@@ -4,8 +4,7 @@ ghost use Rattle.std.specs.Prelude.{◌≡◌, length};
 ghost use Rattle.tables.specs.Row.{row_length};
 
 use crate::numbers::{Numbers, low_byte};
-use pairing::Checked;
-use pairing::inner::survey::{Surveyed, survey};
+use pairing::inner::survey::survey;
 use rows::inner::row;
 use rows::inner::row::row_at;
 use script::input::number;
@@ -14,7 +13,9 @@ use script::output;
 // table, and then the table: its places, by the call check.
 pub fn check(rt: &impl Print, numbers: &[u64], room: &mut [u8]) {
     if let Some(table) = table(Numbers::of(numbers), room) {
-        checked(rt, table);
+        output::answered(rt, pairing::check(table), |places| {
+            output::accepted(rt, &[places as u64])
+        });
     }
 }
 
@@ -53,24 +54,17 @@ fn change(table: &mut [u8], changes: &[u64]) {
     }
 }
 
-fn checked(rt: &impl Print, table: &[u8]) {
-    match pairing::check(table) {
-        Checked::Places(n) => output::answered(rt, n as u64),
-        Checked::Refused(refusal) => output::refused(rt, refusal),
-    }
-}
-
 fn surveyed(rt: &impl Print, table: &[u8], place: usize) {
     match survey(table, place) {
-        Surveyed::Good { places, row } => {
-            if place < places {
-                fields(rt, row_at(table, row), row);
+        Ok(surveyed) => {
+            if place < surveyed.places {
+                fields(rt, row_at(table, surveyed.row), surveyed.row);
             } else {
                 output::none(rt);
-                output::next(rt, places as u64);
+                output::next(rt, surveyed.places as u64);
             }
         }
-        Surveyed::Bad(refusal) => output::refused(rt, refusal),
+        Err(refusal) => output::refused(rt, refusal),
     }
 }
 

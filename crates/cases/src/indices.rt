@@ -2,7 +2,6 @@
 use crate::numbers::low_word;
 use counts::{Length, Radius};
 use enumeration::Selector;
-use points::{Indexed, Pointed};
 use script::input::number;
 use script::output;
 
@@ -18,17 +17,8 @@ pub fn index(rt: &impl Print, numbers: &[u64]) {
     for (c, n) in x.iter_mut().zip(given) {
         *c = coordinate(*n);
     }
-    indexed(
-        rt,
-        points::index(selector(numbers), length(numbers), radius(numbers), x),
-    );
-}
-
-fn indexed(rt: &impl Print, answer: Indexed) {
-    match answer {
-        Indexed::At(n) => output::answered(rt, n),
-        Indexed::Refused(refusal) => output::refused(rt, refusal),
-    }
+    let answer = points::index(selector(numbers), length(numbers), radius(numbers), x);
+    output::answered(rt, answer, |n| output::accepted(rt, &[n]));
 }
 
 // What both calls are given first.
@@ -56,16 +46,8 @@ pub fn point(rt: &impl Print, numbers: &[u64]) {
         return;
     };
     let n = number(numbers, 3);
-    match points::point(selector(numbers), length(numbers), radius(numbers), n, out) {
-        Pointed::Written => output::said(rt, 0),
-        Pointed::Refused(refusal) => output::refused(rt, refusal),
-    }
+    let answer = points::point(selector(numbers), length(numbers), radius(numbers), n, out);
+    output::answered(rt, answer, |()| output::accepted(rt, &[]));
     output::colon(rt);
-    coordinates(rt, out);
-}
-
-pub fn coordinates(rt: &impl Print, x: &[i32]) {
-    for c in x {
-        output::signed(rt, *c < 0, c.unsigned_abs() as u64);
-    }
+    output::coordinates(rt, out);
 }

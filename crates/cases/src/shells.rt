@@ -2,16 +2,14 @@
 use counts::{Length, Radius};
 use script::input::number;
 use script::output;
-use shell::Counted;
 
 // count L K: N.
 pub fn count(rt: &impl Print, numbers: &[u64]) {
-    let length = number(numbers, 0) as usize;
-    let radius = number(numbers, 1) as usize;
-    match shell::count(Length(length), Radius(radius)) {
-        Counted::Points(n) => output::answered(rt, n),
-        Counted::Refused(refusal) => output::refused(rt, refusal),
-    }
+    let length = Length(number(numbers, 0) as usize);
+    let radius = Radius(number(numbers, 1) as usize);
+    output::answered(rt, shell::count(length, radius), |n| {
+        output::accepted(rt, &[n])
+    });
 }
 
 // width N: the width of this total.
@@ -36,7 +34,7 @@ fn shells_of(length: usize) -> Shells {
     let mut usable: u64 = 0;
     let mut points: u64 = 0;
     for radius in 0..=32 {
-        if let Counted::Points(n) = shell::count(Length(length), Radius(radius)) {
+        if let Ok(n) = shell::count(Length(length), Radius(radius)) {
             usable = usable.wrapping_add(1);
             points = points.wrapping_add(n);
         }

@@ -6,16 +6,8 @@ use crate::checks;
 use crate::numbers::{Numbers, low_word};
 use answers::Refusal;
 use floats::inner::{from_pattern, is_unusable, nearest_whole};
-use quantizer::Quantized;
 use script::input::number;
 use script::output;
-use sending::Sending;
-
-#[derive(Clone, Copy)]
-pub enum Call {
-    Quantize,
-    Send,
-}
 
 // The low 32 bits as a coefficient.
 fn coefficient(n: u64) -> f32 {
@@ -28,14 +20,34 @@ pub fn nearest(rt: &impl Print, numbers: &[u64]) {
     if is_unusable(x) {
         output::refused(rt, Refusal::UnusableCoefficient { coordinate: 0 });
     } else {
-        output::answered(rt, nearest_whole(x) as u64);
+        output::accepted(rt, &[nearest_whole(x) as u64]);
     }
 }
 
 // quantize P B C, then C coefficients and a table: what the call says of place P with a record of B bytes, and what
-// these are then. Send 0 B C, then the same: what the call says of the page with a buffer of B bytes, and what these
-// are then.
-pub fn run(rt: &impl Print, call: Call, shelf: Shelf, numbers: &[u64], room: &mut [u8]) {
+// these are then.
+pub fn quantize(rt: &impl Print, shelf: Shelf, numbers: &[u64], room: &mut [u8]) {
+    run(rt, numbers, room, |table, place, coefficients, out| {
+        quantizer::quantize(table, shelf.books, shelf.book, place, coefficients, out)
+    });
+}
+
+// Send 0 B C, then the same: what the call says of the page with a buffer of B bytes, and what these are then.
+pub fn send(rt: &impl Print, shelf: Shelf, numbers: &[u64], room: &mut [u8]) {
+    run(rt, numbers, room, |table, _, coefficients, out| {
+        sending::send(table, shelf.books, shelf.book, coefficients, out)
+    });
+}
+
+// A call that is given a table, a place, coefficients and a buffer; nothing where there is too little room for one.
+fn run<F: FnOnce(&[u8], usize, &[f32], &mut [u8]) -> Result<(), Refusal>>(
+    rt: &impl Print,
+    numbers: &[u64],
+    room: &mut [u8],
+    call: F,
+)
+    requires { F.IsAlwaysCallable call }
+{
     let mut numbers = Numbers::of(numbers);
     let place = numbers.next() as usize;
     let size = numbers.next() as usize;
@@ -50,39 +62,6 @@ pub fn run(rt: &impl Print, call: Call, shelf: Shelf, numbers: &[u64], room: &mu
     let Some(out) = out.get_mut(..size) else {
         return;
     };
-    match call {
-        Call::Quantize => quantized(rt, shelf, table, place, coefficients, out),
-        Call::Send => sent(rt, shelf, table, coefficients, out),
-    }
-}
-
-fn quantized(
-    rt: &impl Print,
-    shelf: Shelf,
-    table: &[u8],
-    place: usize,
-    coefficients: &[f32],
-    out: &mut [u8],
-) {
-    match quantizer::quantize(table, shelf.books, shelf.book, place, coefficients, out) {
-        Quantized::Written => output::said(rt, 0),
-        Quantized::Refused(refusal) => output::refused(rt, refusal),
-    }
-    output::colon(rt);
-    bytes(rt, out);
-}
-
-fn sent(rt: &impl Print, shelf: Shelf, table: &[u8], run: &[f32], out: &mut [u8]) {
-    match sending::send(table, shelf.books, shelf.book, run, out) {
-        Sending::Written => output::said(rt, 0),
-        Sending::Refused(refusal) => output::refused(rt, refusal),
-    }
-    output::colon(rt);
-    bytes(rt, out);
-}
-
-pub fn bytes(rt: &impl Print, out: &[u8]) {
-    for byte in out {
-        output::next(rt, *byte as u64);
-    }
+    let answer = call(table, place, coefficients, out);
+    output::left(rt, answer, out);
 }

@@ -30,27 +30,6 @@ pub fn signed(rt: &impl Print, negative: bool, magnitude: u64) {
     }
 }
 
-// What is found at a place, in the tally's order.
-#[derive(Clone, Copy)]
-pub enum Finding {
-    Sound,
-    Mended,
-    Missing,
-    Contested,
-    Unreadable,
-}
-
-// What is found at a place.
-pub fn answer(rt: &impl Print, finding: Finding) {
-    match finding {
-        Finding::Sound => words(rt, b" = sound"),
-        Finding::Mended => words(rt, b" = mended"),
-        Finding::Missing => words(rt, b" = missing"),
-        Finding::Contested => words(rt, b" = contested"),
-        Finding::Unreadable => words(rt, b" = unreadable"),
-    }
-}
-
 // That there is none.
 pub fn none(rt: &impl Print) {
     words(rt, b" none");
@@ -61,10 +40,41 @@ pub fn colon(rt: &impl Print) {
     words(rt, b":");
 }
 
-// An answer of one number.
-pub fn answered(rt: &impl Print, n: u64) {
+// Bytes or other numbers, one behind the other.
+pub fn numbers<T: Copy + Into<u64>>(rt: &impl Print, many: &[T]) {
+    for n in many {
+        next(rt, (*n).into());
+    }
+}
+
+// Coordinates, one behind the other.
+pub fn coordinates(rt: &impl Print, vector: &[i32]) {
+    for c in vector {
+        signed(rt, *c < 0, c.unsigned_abs() as u64);
+    }
+}
+
+// What a call answers: what is told of its value, or a refusal.
+pub fn answered<T: Drop, F: FnOnce(T)>(rt: &impl Print, answer: Result<T, Refusal>, told: F)
+    requires { F.IsAlwaysCallable told }
+{
+    match answer {
+        Ok(value) => told(value),
+        Err(refusal) => refused(rt, refusal),
+    }
+}
+
+// What a call says that isn't refused: 0, and the numbers of its answer.
+pub fn accepted(rt: &impl Print, answer: &[u64]) {
     said(rt, 0);
-    next(rt, n);
+    numbers(rt, answer);
+}
+
+// What a call says that writes bytes, and what these are then.
+pub fn left(rt: &impl Print, answer: Result<(), Refusal>, bytes: &[u8]) {
+    answered(rt, answer, |()| accepted(rt, &[]));
+    colon(rt);
+    numbers(rt, bytes);
 }
 
 // What a refused call says: the number, the first value that it names, or 0, and the second of one that names two.

@@ -9,5 +9,5 @@ use Rattle.cases.proofs.checks.surveyed.Goals as goal
 pub row_at-requires : goal.row_at-requires
 row_at-requires g c =
     let t = c.args.table.now in
-    let said = survey_good (table_checks t) t c.args.place c.survey.ensures (table_numbered t) c.in-Good.is in
-    omega (arith, row_below t c.args.place (omega (arith, said.is_places, c.if-place-places.true)), said.is_row)
+    let said = survey_good (table_checks t) t c.args.place c.survey.ensures (table_numbered t) c.in-Ok.is in
+    omega (arith, row_below t c.args.place (omega (arith, said.is_places, c.if-place-surveyed.true)), said.is_row)
