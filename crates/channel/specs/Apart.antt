@@ -2,7 +2,7 @@
 -- the records that claim a place in that book and by nothing else, beside the table, the number of books and the
 -- call's own arguments. t is any table, `books` any number of books, `book` any book, pg and pg' any pages, xs and ys
 -- what arrives.
-use Rattle.std.specs.Prelude.{ℕ, Bool, true, false, List, [], ◌∷◌, ◌≡◌, Float, ℤ, length}
+use Rattle.std.specs.Prelude.{ℕ, Bool, List, [], ◌∷◌, ◌≡◌, ℤ, length}
 use Rattle.answers.specs.Checks.{pick}
 use Rattle.tables.specs.Table.{places_in}
 use Rattle.records.specs.Record.{book_in, place_in}

@@ -2,8 +2,9 @@
 -- a number is given exactly when its condition holds and no condition before it in the call's order does; any two
 -- results that a contract allows are equal. A call is named here by what its contract cites: what it says, and what
 -- it leaves in the buffer that is lent to it. Collect refuses nothing; its contract is two equations.
-use Rattle.std.specs.Prelude.{ℕ, suc, ◌≡◌, ◌↔◌, Float, ℤ, length}
+use Rattle.std.specs.Prelude.{ℕ, suc, ◌≡◌, ◌↔◌, Float, ℤ, length, Result}
 use mathlib.Core.List.{List, [], ◌∷◌, ◌++◌, map, Memᴰ}
+use Rattle.answers.specs.declared.Refusal.{Refusal}
 use Rattle.answers.specs.Checks.{Check, number_said, any_of, fails_of, length_check, each_from, Refuses, Passes}
 use Rattle.counts.specs.Counts.{N}
 use Rattle.enumeration.specs.Enumerations.{selected_by}
@@ -30,7 +31,7 @@ use Rattle.rules.specs.Reading.{read_checks, read_says, read_leaves, coordinate_
 use Rattle.rules.specs.Tallying.{tally_checks, tally_says}
 use Rattle.conversion.specs.Meanings.{conversion_meaning}
 use Rattle.page.specs.Meanings.{take_meaning, read_meaning, coefficient_meaning, coefficient_values, tally_meaning}
-use Rattle.page.specs.declared.Valued.{Valued}
+use Rattle.page.specs.declared.Answer.{Answer}
 use Rattle.reporting.specs.Calls.{no_room, lines_fit, lines_checks, lines_says, lines_leaves, line_says, line_leaves}
 use Rattle.report.specs.Meanings.{listed_meaning, lined_meaning}
 
@@ -193,7 +194,7 @@ pub record Demand1 : Type 0 where
       (coefficient_checks mode t books book pg p i) (coefficient_says mode t books book pg p i)
   pub coefficient_none : (mode : ℕ) (t : List ℕ) (books book : ℕ) (pg : List ℕ) (p i : ℕ)
       → Unchanged (coefficient_says mode t books book pg p i) (coefficient_carries mode t books book pg p i) []
-  pub coefficient_determined : (mode : ℕ) (t : List ℕ) (books book : ℕ) (pg : List ℕ) (p i : ℕ) (r r' : Valued)
+  pub coefficient_determined : (mode : ℕ) (t : List ℕ) (books book : ℕ) (pg : List ℕ) (p i : ℕ) (r r' : Result (Answer Float) Refusal)
       → coefficient_meaning r ≡ coefficient_says mode t books book pg p i → coefficient_values r ≡ coefficient_carries mode t books book pg p i
       → coefficient_meaning r' ≡ coefficient_says mode t books book pg p i → coefficient_values r' ≡ coefficient_carries mode t books book pg p i → r ≡ r'
   -- Tally: 16, 17, 7, 8, 4, 12
