@@ -1,4 +1,4 @@
--- The code of a refusal.
+-- One number for what a call says: the code of a refusal.
 use Prim.Native.Nat.{◌+◌, ◌^◌}
 use mathlib.Core.Path.{◌≡◌}
 use Rattle.answers.specs.Refusals.{meaning, number_of}

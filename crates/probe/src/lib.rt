@@ -8,39 +8,28 @@ pub mod said;
 ghost use Rattle.std.specs.Prelude.{◌≡◌, get_or};
 ghost use Rattle.shell.specs.Shell.{count_says};
 ghost use Rattle.answers.specs.Checks.{number_said};
-ghost use Rattle.answers.specs.Refusals.{meaning, one_number, result_meaning};
+ghost use Rattle.answers.specs.Refusals.{one_number, result_meaning};
 ghost use Rattle.tables.specs.Table.{check_says};
-ghost use Rattle.pairing.specs.Meanings.{check_meaning};
 ghost use Rattle.indexing.specs.Calls.{index_says, point_says, point_leaves};
-ghost use Rattle.quantizer.specs.Calls.{quantize_meaning, quantize_says, quantize_leaves};
+ghost use Rattle.quantizer.specs.Calls.{quantize_says, quantize_leaves};
 ghost use Rattle.probe.specs.Coded.{coded, valued};
 
-use answers::{Refusal, in_numbers, number, number_said};
+use answers::{Refusal, number, number_said};
 use counts::{Length, Radius};
 use enumeration::Selector;
 use pairing::check;
 use points::{index, point};
 use quantizer::quantize;
-use said::done_item;
+use said::item;
 use shell::count;
 use tables::{Book, Books};
 
-// The code of a refusal.
-fn refused(refusal: Refusal) -> u64
-    ensures { result ≡ coded (meaning refusal) }
-{
-    (1 << 40) + number(refusal) as u64
-}
-
-// The code of a number that is answered, or of a refusal.
-#[tactic(auto, unfolding(crate::specs::Coded::coded))]
+// The code of what a call says whose answer is one number.
+#[tactic(auto, using(crate::proofs::Codes::refusal_coded), unfolding(crate::specs::Coded::coded))]
 fn code(answer: Result<u64, Refusal>) -> u64
     ensures { result ≡ coded (result_meaning one_number answer) }
 {
-    match answer {
-        Ok(n) => n,
-        Err(refusal) => refused(refusal),
-    }
+    answer.unwrap_or_else(|refusal| (1 << 40) + number(refusal) as u64)
 }
 
 // The call count.
@@ -69,20 +58,10 @@ pub fn probe_point(
     ensures { (result ≡ get_or (point_says selector length radius n out.old) which 0)
         × (out.new ≡ point_leaves selector length radius n out.old) }
 {
-    done_item(
+    item(
         point(Selector(selector), Length(length), Radius(radius), n, out),
         which,
     )
-}
-
-// The value of what check answers: the number of places, or the row that the refusal names.
-fn check_value(answer: Result<usize, Refusal>) -> usize
-    ensures { result ≡ valued (check_meaning answer) }
-{
-    match answer {
-        Ok(n) => n,
-        Err(refusal) => in_numbers(refusal).1,
-    }
 }
 
 // The call check, by its number.
@@ -96,17 +75,7 @@ pub fn probe_check(table: &[u8]) -> u32
 pub fn probe_check_value(table: &[u8]) -> usize
     ensures { result ≡ valued (check_says table.now) }
 {
-    check_value(check(table))
-}
-
-// The value of what quantize answers: the row or the coordinate that a refusal names, else 0.
-fn quantize_value(answer: Result<(), Refusal>) -> usize
-    ensures { result ≡ valued (quantize_meaning answer) }
-{
-    match answer {
-        Ok(()) => 0,
-        Err(refusal) => in_numbers(refusal).1,
-    }
+    item(check(table), 1) as usize
 }
 
 // The call quantize, by its number.
@@ -136,5 +105,8 @@ pub fn probe_quantize_value(
     ensures { (result ≡ valued (quantize_says table.now books book place coefficients.now out.old))
         × (out.new ≡ quantize_leaves table.now books book place coefficients.now out.old) }
 {
-    quantize_value(quantize(table, Books(books), Book(book), place, coefficients, out))
+    item(
+        quantize(table, Books(books), Book(book), place, coefficients, out),
+        1,
+    ) as usize
 }

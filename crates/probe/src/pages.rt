@@ -11,7 +11,7 @@ ghost use Rattle.rules.specs.Tallying.{tally_says};
 ghost use Rattle.runs.specs.Sending.{send_says, send_leaves};
 ghost use Rattle.probe.specs.Coded.{positive_zero};
 
-use crate::said::{coefficient_value, done_item, lines_item, place_item, tally_item};
+use crate::said::{coefficient_value, item};
 use conversion::{to_cell_by_cell, to_states_first};
 use layout::Layout;
 use rules::Mode;
@@ -31,7 +31,7 @@ pub fn probe_take(
         × (page.new ≡ as_kept (layout_of layout) table.now books
         (take_leaves table.now books (as_cells (layout_of layout) table.now books page.old) bytes.now)) }
 {
-    done_item(
+    item(
         page::take(table, Books(books), Layout::from(layout), page, bytes),
         which,
     )
@@ -70,7 +70,7 @@ pub fn probe_read(
         × (out.new ≡ read_leaves mode table.now books book
         (as_cells (layout_of layout) table.now books page.now) place out.old) }
 {
-    place_item(
+    item(
         page::read(
             Mode(mode),
             table,
@@ -100,7 +100,7 @@ pub fn probe_coefficient(
     ensures { result ≡ get_or (coefficient_says mode table.now books book
         (as_cells (layout_of layout) table.now books page.now) place coordinate) which 0 }
 {
-    place_item(
+    item(
         page::coefficient(
             Mode(mode),
             table,
@@ -154,7 +154,7 @@ pub fn probe_tally(
     ensures { result
         ≡ get_or (tally_says mode table.now books book (as_cells (layout_of layout) table.now books page.now)) which 0 }
 {
-    tally_item(
+    item(
         page::tally(
             Mode(mode),
             table,
@@ -184,7 +184,7 @@ pub fn probe_lines(
         × (out.new ≡ lines_leaves mode table.now books book
         (as_cells (layout_of layout) table.now books page.now) from out.old) }
 {
-    lines_item(
+    item(
         report::lines(
             Mode(mode),
             table,
@@ -211,7 +211,7 @@ pub fn probe_to_states_first(
         × (states_first.new ≡ convert_leaves layouts.CellByCell layouts.StatesFirst
         table.now books cell_by_cell.now states_first.old) }
 {
-    done_item(
+    item(
         to_states_first(table, Books(books), cell_by_cell, states_first),
         which,
     )
@@ -229,7 +229,7 @@ pub fn probe_to_cell_by_cell(
         × (cell_by_cell.new ≡ convert_leaves layouts.StatesFirst layouts.CellByCell
         table.now books states_first.now cell_by_cell.old) }
 {
-    done_item(
+    item(
         to_cell_by_cell(table, Books(books), states_first, cell_by_cell),
         which,
     )
@@ -247,7 +247,7 @@ pub fn probe_send(
     ensures { (result ≡ get_or (send_says table.now books book run.now out.old) which 0)
         × (out.new ≡ send_leaves table.now books book run.now out.old) }
 {
-    done_item(
+    item(
         sending::send(table, Books(books), Book(book), run, out),
         which,
     )
