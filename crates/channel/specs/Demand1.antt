@@ -6,7 +6,6 @@ use Rattle.std.specs.Prelude.{ℕ, suc, ◌≡◌, ◌↔◌, Float, ℤ, length
 use mathlib.Core.List.{List, [], ◌∷◌, ◌++◌, map, Memᴰ}
 use Rattle.answers.specs.declared.Refusal.{Refusal}
 use Rattle.answers.specs.Checks.{Check, number_said, any_of, fails_of, length_check, each_from, Refuses, Passes}
-use Rattle.answers.specs.declared.Refusal.{Refusal}
 use Rattle.counts.specs.Counts.{N}
 use Rattle.enumeration.specs.Enumerations.{selected_by}
 use Rattle.tables.specs.Usable.{shell_checks}
