@@ -30,20 +30,18 @@ fn take_file<F: Read>(rt: &impl Eprint, file: &mut F, table: &[u8], page: &mut [
 {
     let mut block = [0u8; 65536];
     let mut refused: u64 = 0;
-    let mut n = fill(rt, file, RECORDS, &mut block);
-    for _turn in 0..MOST_TURNS {
+    for _turn in 0..=MOST_TURNS {
+        let n = fill(rt, file, RECORDS, &mut block);
+        refused += collect(
+            table,
+            Books(ONE_BOOK),
+            Layout::CellByCell,
+            page,
+            &block[..n],
+        ) as u64;
         if n < block.len() {
-            break;
+            return refused;
         }
-        refused += collect(table, Books(ONE_BOOK), Layout::CellByCell, page, &block) as u64;
-        n = fill(rt, file, RECORDS, &mut block);
     }
-    refused += collect(
-        table,
-        Books(ONE_BOOK),
-        Layout::CellByCell,
-        page,
-        &block[..n],
-    ) as u64;
     refused
 }

@@ -1,5 +1,5 @@
 -- What each turn of the loop keeps in `listing::inner::input::take_file`.
-use Rattle.std.proofs.Common.{◌≡◌, ◌*◌, ◌≤◌, length, take}
+use Rattle.std.proofs.Common.{◌≡◌, ◌*◌, ◌≤◌, length}
 use Rattle.listing.proofs.Blocks.{TookWhole}
 use Rattle.listing.proofs.inner.input.take_file.Given as goal
 
@@ -9,6 +9,4 @@ invariant-loop-turn g l =
     (length l.block ≡ 65536)
     × (length l.page ≡ length l.initial.page)
     × (l.refused ≤ 8192 * l._turn)
-    × (l.n ≤ length l.block)
-    × (l.n ≡ length (take l.n l.block))
     × TookWhole l.table l.initial.page l.page l.refused
