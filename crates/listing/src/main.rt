@@ -28,7 +28,8 @@ fn list_page(rt: &(impl Files + Print + Eprint), table: &[u8], places: usize) ->
     print_page(rt, table, page, places, refused)
 }
 
-// Lists the page of the table that is read, if the table is good.
+// Lists the page of the table that is read, if the table is good. The sender begins so too:
+// one function for both, which is given the rest as a closure, would be longer than these lines.
 fn list(rt: &(impl Files + Print + Eprint)) -> Result<(), End> {
     let mut room = [0u8; 513];
     let size = read_table(rt, &mut room);

@@ -30,7 +30,8 @@ fn send_page(rt: &(impl Files + Eprint), table: &[u8], places: usize) -> Result<
     Ok(())
 }
 
-// Sends the page of the table that is read, if the table is good.
+// Sends the page of the table that is read, if the table is good. The listing program begins so too:
+// one function for both, which is given the rest as a closure, would be longer than these lines.
 fn send(rt: &(impl Files + Eprint)) -> Result<(), Refusal> {
     let mut room = [0u8; 513];
     let size = read_table(rt, &mut room);
