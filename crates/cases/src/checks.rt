@@ -1,12 +1,9 @@
 // The cases of the call check, and of the rows of places. A table is given by its size in bytes, the 16 bytes of
 // the row that it has again and again, and then changes, each a position and what stands there.
-ghost use Rattle.std.specs.Prelude.{◌≡◌, length};
-ghost use Rattle.tables.specs.Row.{row_length};
-
 use crate::numbers::{Numbers, low_byte};
 use pairing::inner::survey::survey;
 use rows::inner::row;
-use rows::inner::row::row_at;
+use rows::inner::row::{Row, row_at};
 use script::input::number;
 use script::output;
 
@@ -68,9 +65,7 @@ fn surveyed(rt: &impl Print, table: &[u8], place: usize) {
     }
 }
 
-fn fields(rt: &impl Print, row: &[u8], number: usize)
-    requires { length row.now ≡ row_length }
-{
+fn fields(rt: &impl Print, row: &Row, number: usize) {
     output::said(rt, number as u64);
     output::colon(rt);
     output::next(rt, row::length(row).0 as u64);
@@ -81,9 +76,7 @@ fn fields(rt: &impl Print, row: &[u8], number: usize)
 }
 
 // The radii that are in the row.
-fn radii(rt: &impl Print, row: &[u8])
-    requires { length row.now ≡ row_length }
-{
+fn radii(rt: &impl Print, row: &Row) {
     for n in 0..row::radii(row).min(8) {
         output::next(rt, row::radius(row, n).0 as u64);
     }

@@ -13,6 +13,7 @@ use coefficients::inner::coefficients::{write_magnitudes, write_signed};
 use coefficients::inner::radius::choose;
 use numbering::inner::{Numbering, index, of_row};
 use records::inner::{Named, write};
+use rows::inner::row::Row;
 use shares::inner::{share, sum};
 
 // The radius number, and the codeword.
@@ -46,7 +47,7 @@ fn codeword(numbering: Numbering, total: u32, coefficients: &[f32], magnitudes: 
 }
 
 // The radius number and the codeword. At radius 0 the point is zero, and its index 0.
-fn code(row: &[u8], coefficients: &[f32]) -> Coded
+fn code(row: &Row, coefficients: &[f32]) -> Coded
     requires { IsRow row.now × (length coefficients.now ≡ length_of row.now) × AllUsable coefficients.now }
     ensures { (result.number ≡ radius_number_for row.now coefficients.now)
         × (result.codeword ≡ codeword_for row.now coefficients.now) }
@@ -67,7 +68,7 @@ fn code(row: &[u8], coefficients: &[f32]) -> Coded
 }
 
 // The record of a vector in this row, with the book, the place and the row's number that it is to name.
-pub fn write_record(row: &[u8], named: Named, coefficients: &[f32], out: &mut [u8])
+pub fn write_record(row: &Row, named: Named, coefficients: &[f32], out: &mut [u8])
     requires { Accepted row.now coefficients.now out.old × InField named }
     ensures { out.new ≡ record_named named row.now coefficients.now }
 {

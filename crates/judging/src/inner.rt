@@ -9,7 +9,7 @@ ghost use Rattle.judging.specs.Seen.{NotSound, Nowhere, Handed, Sees};
 use numbering::inner::{Found, Numbering, Sought, names, nowhere, of_row, seek};
 use ranges::inner::{power, width};
 use records::inner::{codeword_in, radius_number_in};
-use rows::inner::row::radii;
+use rows::inner::row::{Row, radii};
 use rules::{Judged, Mode, PLAIN, Reason};
 
 // The answer of a cell, and where the index of a sound one stands, so that the point need not be sought again.
@@ -54,7 +54,7 @@ fn unseen(judged: Judged) -> Seen
 }
 
 // A codeword of the shell of a radius number. Below the total it is below 2^b too.
-fn judge_codeword(mode: Mode, row: &[u8], number: usize, n: u64) -> Seen
+fn judge_codeword(mode: Mode, row: &Row, number: usize, n: u64) -> Seen
     requires { IsRow row.now × (number < radii_of row.now) }
     ensures { (result.judged ≡ judge_in mode.0 row.now (radius_at row.now number) n)
         × Handed row.now result.judged result.found }
@@ -75,7 +75,7 @@ fn judge_codeword(mode: Mode, row: &[u8], number: usize, n: u64) -> Seen
 }
 
 // A held record, in its row.
-fn judge_record(mode: Mode, row: &[u8], bytes: &[u8]) -> Seen
+fn judge_record(mode: Mode, row: &Row, bytes: &[u8]) -> Seen
     requires { IsRow row.now × (length bytes.now ≡ record_length) }
     ensures { (result.judged ≡ judge_record mode.0 row.now bytes.now) × Handed row.now result.judged result.found }
 {
@@ -87,7 +87,7 @@ fn judge_record(mode: Mode, row: &[u8], bytes: &[u8]) -> Seen
 }
 
 // A cell by its state.
-pub fn judge(mode: Mode, row: &[u8], state: u8, bytes: &[u8]) -> Seen
+pub fn judge(mode: Mode, row: &Row, state: u8, bytes: &[u8]) -> Seen
     requires { IsRow row.now × (length bytes.now ≡ record_length) }
     ensures { Sees mode.0 row.now (record { state = state; bytes = bytes.now }) result }
 {

@@ -2,13 +2,14 @@
 ghost use Rattle.std.specs.Prelude.{◌≡◌, ◌<◌};
 ghost use Rattle.std.proofs.Math.ListN as listed;
 ghost use Rattle.enumeration.specs.Point.{OnShell};
-ghost use Rattle.tables.specs.Row.{row_length, radius_at};
+ghost use Rattle.tables.specs.Row.{radius_at};
 ghost use Rattle.numbering.specs.Numbered as numbered;
 ghost use Rattle.numbering.specs.Numbered.{ByProduct, ByMagnitude, IsOfRow, total_in, index_in, point_in, names_in, Usable, Names, IsFound, Seeks};
 
 use counts::{Field, Length, Radius};
 use product::inner::range::{Range, holds, locate};
 use ranges::inner::index_count;
+use rows::inner::row::Row;
 use selectors::inner::{Selected, field_of, select};
 
 // The shell whose points are numbered, and by which enumeration.
@@ -46,8 +47,7 @@ pub enum Sought {
 }
 
 // The numbering of the shell of a radius, in a row.
-pub fn of_radius(row: &[u8], radius: Radius) -> Numbering
-    requires { listed.length row.now ≡ row_length }
+pub fn of_radius(row: &Row, radius: Radius) -> Numbering
     ensures { IsOfRow result row.now radius.0 }
 {
     Numbering {
@@ -58,8 +58,8 @@ pub fn of_radius(row: &[u8], radius: Radius) -> Numbering
 }
 
 // The same of a radius number of the row.
-pub fn of_row(row: &[u8], number: usize) -> Numbering
-    requires { (listed.length row.now ≡ row_length) × (number < 8) }
+pub fn of_row(row: &Row, number: usize) -> Numbering
+    requires { number < 8 }
     ensures { IsOfRow result row.now (radius_at row.now number) }
 {
     of_radius(row, rows::inner::row::radius(row, number))

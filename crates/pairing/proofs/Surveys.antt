@@ -11,10 +11,11 @@ use Rattle.answers.specs.Refusals.{meaning}
 use Rattle.answers.specs.Checks.{Check, any_of, first_of, leaves, fails_of, Passes}
 use Rattle.answers.specs.declared.Refusal.{Refusal}
 use Rattle.answers.proofs.InOrder.{Numbered, says_passes, passes_says, passed_says, passed_leaves, refused_says, refused_leaves, refusal_fails}
-use Rattle.tables.specs.Row.{row_length, IsRow}
+use Rattle.tables.specs.Row.{IsRow}
 use Rattle.tables.specs.Table.{rows_of, row_at, places_in, Good, row_of, row_for, survey_says}
 use Rattle.tables.specs.BookNumbers.{place_checks}
 use Rattle.tables.proofs.Good.{good_place}
+use Rattle.tables.proofs.Rows.{row_length_lem}
 use Rattle.tables.proofs.PlaceChecks.{place_numbered}
 use Rattle.pairing.specs.Meanings.{survey_meaning}
 use Rattle.pairing.specs.declared.inner.survey.Surveyed.{Surveyed}
@@ -77,12 +78,12 @@ module _ {checks : List Check} {t : List ℕ} {p places n : ℕ} (found : Survey
   number_in = rw found.is_row (good_place t p placed.0 placed.1).0
 
   -- `row` is what is lent of it
-  module _ {row : List ℕ} (lent : (row ≡ row_at t n) × (length row ≡ row_length)) where
+  module _ {row : List ℕ} (lent : row ≡ row_at t n) where
     is_its_row : row ≡ row_for t p
-    is_its_row = lent.0 ∙ ap (row_at t) found.is_row
+    is_its_row = lent ∙ ap (row_at t) found.is_row
 
     pub row_surveyed : IsRow row
-    row_surveyed = record { sixteen = lent.1; row_good = rw is_its_row (good_place t p placed.0 placed.1).1 }
+    row_surveyed = record { sixteen = ap length lent ∙ row_length_lem t n number_in; row_good = rw is_its_row (good_place t p placed.0 placed.1).1 }
 
     -- what is said and left for the row, by its number and bytes, is what is said and left for the place
     module _ (rest : ℕ → List ℕ → List Check) where

@@ -15,7 +15,7 @@ use coding::inner::write_record;
 use coefficients::inner::coefficients::check_coefficients;
 use pairing::inner::books::survey_place;
 use records::inner::{Named, wrong_record};
-use rows::inner::row::{length, row_at};
+use rows::inner::row::{Row, length, row_at};
 use tables::{Book, Books};
 
 // The call quantize: the record is written once every check has passed.
@@ -41,12 +41,7 @@ pub fn quantize(
 
 // What quantize does in this row, with the book, the place and the row's number that go into the record: the checks 4,
 // 4 and 11, and the work.
-fn quantize_at(
-    row: &[u8],
-    named: Named,
-    coefficients: &[f32],
-    out: &mut [u8],
-) -> Result<(), Refusal>
+fn quantize_at(row: &Row, named: Named, coefficients: &[f32], out: &mut [u8]) -> Result<(), Refusal>
     requires { IsRow row.now × InField named }
     ensures { (quantize_meaning result
         ≡ first_of (quantize_rest row.now coefficients.now (listed.length out.old)) (0 ∷ []))

@@ -18,7 +18,7 @@ use floats::inner::over_256;
 use judging::inner::Seen;
 use places::inner::looking::look;
 use places::inner::showing::show;
-use rows::inner::row::{length, step};
+use rows::inner::row::{Row, length, step};
 use rules::{Judged, Mode};
 
 // The answer that a caller sees; a sound or mended place carries the value.
@@ -37,7 +37,7 @@ fn answer<T: Copy>(judged: Judged, value: T) -> Answer<T>
 // What read does at the cell of a place in this row: the checks 4 and 12, and the work.
 pub fn read_at(
     mode: Mode,
-    row: &[u8],
+    row: &Row,
     page: &[u8],
     spot: Spot,
     out: &mut [i32],
@@ -68,7 +68,7 @@ fn scaled(c: i32, step: usize) -> f32
 }
 
 // The value of a coordinate of what a place shows.
-fn value_of(row: &[u8], seen: Seen, coordinate: usize) -> f32
+fn value_of(row: &Row, seen: Seen, coordinate: usize) -> f32
     requires { IsRow row.now × Shows row.now seen.judged × Handed row.now seen.judged seen.found
         × (coordinate < length_of row.now) }
     ensures { result ≡ value_in row.now (shown row.now seen.judged) coordinate }
@@ -83,7 +83,7 @@ fn value_of(row: &[u8], seen: Seen, coordinate: usize) -> f32
 // What coefficient does at the cell of a place in this row: the checks 13 and 12, and the work.
 pub fn coefficient_at(
     mode: Mode,
-    row: &[u8],
+    row: &Row,
     page: &[u8],
     spot: Spot,
     coordinate: usize,

@@ -3,7 +3,7 @@ ghost use Rattle.std.specs.Prelude.{not, ◌≡◌, ◌<◌, eqb, length};
 ghost use Rattle.tables.specs.Table.{places_in, Good, row_of};
 ghost use Rattle.tables.specs.Way.{Starts};
 
-use rows::inner::row::{places, row_at};
+use rows::inner::row::{places, rows};
 
 // For each row the first place in it, and behind the last row the number of places.
 #[tactic(auto, using(crate::proofs::Starting::starting), unfolding(tables::specs::Table::places_before))]
@@ -13,9 +13,9 @@ pub fn row_starts(table: &[u8], starts: &mut [usize])
 {
     let mut sum = 0;
     starts[0] = 0;
-    for row in 0..table.len() / 16 {
-        sum += places(row_at(table, row));
-        starts[row + 1] = sum;
+    for (number, row) in rows(table).iter().enumerate() {
+        sum += places(row);
+        starts[number + 1] = sum;
     }
 }
 

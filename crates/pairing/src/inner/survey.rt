@@ -7,7 +7,7 @@ ghost use Rattle.pairing.specs.Meanings.{survey_meaning};
 
 use answers::Refusal;
 use rows::inner::fault::bad_row;
-use rows::inner::row::{places, row_at};
+use rows::inner::row::{places, rows};
 
 // What a survey tells of a good table: the number of places, and the row of the place that was asked for, or the
 // number of rows where there is no such place.
@@ -32,17 +32,15 @@ pub fn survey(table: &[u8], place: usize) -> Result<Surveyed, Refusal>
     if wrong_size(table) {
         return Err(Refusal::BadTable { row: 0 });
     }
-    let rows = table.len() / 16;
     let mut sum = 0;
     let mut row = 0;
-    for at in 0..rows {
-        let bytes = row_at(table, at);
+    for (number, bytes) in rows(table).iter().enumerate() {
         if bad_row(bytes) {
-            return Err(Refusal::BadTable { row: at });
+            return Err(Refusal::BadTable { row: number });
         }
         sum += places(bytes);
         if 4096 < sum {
-            return Err(Refusal::BadTable { row: at });
+            return Err(Refusal::BadTable { row: number });
         }
         if sum <= place {
             row += 1;

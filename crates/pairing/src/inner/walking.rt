@@ -3,7 +3,7 @@ ghost use Rattle.std.specs.Prelude.{◌≡◌, ◌<◌, ◌≤◌};
 ghost use Rattle.tables.specs.Table.{rows_of, places_before, places_in, Good};
 ghost use Rattle.tables.specs.Way.{Placed, Walked, AtRow};
 
-use rows::inner::row::{places, row_at};
+use rows::inner::row::{places, row_at, rows};
 
 // A row on the way through the places, and the place where it ends.
 #[derive(Clone, Copy)]
@@ -34,8 +34,8 @@ fn places_before(table: &[u8], row: usize) -> usize
     ensures { (result ≡ places_before table.now row) × (result ≤ 4096) }
 {
     let mut sum = 0;
-    for at in 0..row {
-        sum += places(row_at(table, at));
+    for before in &rows(table)[..row] {
+        sum += places(before);
     }
     sum
 }

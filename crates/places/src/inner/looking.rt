@@ -8,10 +8,11 @@ use cells::inner::rule::bad_at;
 use cells::inner::spot::Spot;
 use judging::inner::{Seen, judge};
 use layout::inner::{record_at, state_at};
+use rows::inner::row::Row;
 use rules::Mode;
 
 // The answer of the cell of a place in this row, in this mode.
-pub fn judge_at(mode: Mode, row: &[u8], page: &[u8], spot: Spot) -> Seen
+pub fn judge_at(mode: Mode, row: &Row, page: &[u8], spot: Spot) -> Seen
     requires { IsRow row.now × SpotIn page.now spot }
     ensures { Sees mode.0 row.now (cell_there page.now spot) result }
 {
@@ -24,7 +25,7 @@ pub fn judge_at(mode: Mode, row: &[u8], page: &[u8], spot: Spot) -> Seen
 }
 
 // The cell of a place in this row; none where refusal 12 is given for it.
-pub fn look(mode: Mode, row: &[u8], page: &[u8], spot: Spot) -> Option<Seen>
+pub fn look(mode: Mode, row: &Row, page: &[u8], spot: Spot) -> Option<Seen>
     requires { IsRow row.now × SpotIn page.now spot }
     ensures { Looks mode.0 row.now spot.named (cell_there page.now spot) result }
 {

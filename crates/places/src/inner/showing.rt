@@ -11,11 +11,12 @@ ghost use Rattle.wording.specs.Kinds.{kind_number};
 use counts::Radius;
 use judging::inner::Seen;
 use numbering::inner::{Found, of_radius, write_point};
+use rows::inner::row::Row;
 use rules::{Judged, Reason};
 use wording::AnswerKind;
 
 // The point of an index in a row, by where it stands.
-fn write_found(row: &[u8], radius: usize, n: u64, found: Found, out: &mut [i32])
+fn write_found(row: &Row, radius: usize, n: u64, found: Found, out: &mut [i32])
     requires { IsRow row.now × NamesPoint row.now radius n × FoundIn row.now radius n found
         × (listed.length out.old ≡ length_of row.now) }
     ensures { out.new ≡ point_named row.now radius n }
@@ -24,7 +25,7 @@ fn write_found(row: &[u8], radius: usize, n: u64, found: Found, out: &mut [i32])
 }
 
 // The same, where it is still to be sought.
-fn write_sought(row: &[u8], radius: usize, n: u64, out: &mut [i32])
+fn write_sought(row: &Row, radius: usize, n: u64, out: &mut [i32])
     requires { IsRow row.now × NamesPoint row.now radius n × (listed.length out.old ≡ length_of row.now) }
     ensures { out.new ≡ point_named row.now radius n }
 {
@@ -32,7 +33,7 @@ fn write_sought(row: &[u8], radius: usize, n: u64, out: &mut [i32])
 }
 
 // The point of a place that is sound or mended, and zeros for the others.
-pub fn show(row: &[u8], seen: Seen, out: &mut [i32])
+pub fn show(row: &Row, seen: Seen, out: &mut [i32])
     requires { IsRow row.now × Shows row.now seen.judged × Handed row.now seen.judged seen.found
         × (listed.length out.old ≡ length_of row.now) }
     ensures { out.new ≡ shown row.now seen.judged }

@@ -24,7 +24,7 @@ use pairing::inner::walking::{walk_from, walked};
 use places::inner::looking::judge_at;
 use places::inner::showing::{answer_kind, reason_or_distance, show};
 use records::inner::Named;
-use rows::inner::row::{length, row_at};
+use rows::inner::row::{Row, length, row_at};
 use rules::Mode;
 use text::inner::lines::write_place_line;
 
@@ -66,7 +66,7 @@ fn check_cells(table: &[u8], page: &[u8], span: Span) -> Result<(), Refusal>
 
 // The line of a place where this was seen, with room for its point; where it ends.
 fn write_seen(
-    row: &[u8],
+    row: &Row,
     place: usize,
     seen: Seen,
     point: &mut [i32],
@@ -90,7 +90,7 @@ fn write_seen(
 }
 
 // The line of a place in this row, by its cell and in this mode; where it ends.
-fn write_line(mode: Mode, row: &[u8], page: &[u8], spot: Spot, at: usize, out: &mut [u8]) -> usize
+fn write_line(mode: Mode, row: &Row, page: &[u8], spot: Spot, at: usize, out: &mut [u8]) -> usize
     requires { IsRow row.now × SpotIn page.now spot × (at + line_space ≤ listed.length out.old) }
     ensures { Wrote out.old at (line_in mode.0 row.now spot.named.place (cell_there page.now spot))
         line_space result out.new }

@@ -1,16 +1,15 @@
 // Whether a row is bad by itself.
 ghost use Rattle.std.specs.Prelude.{◌≡◌, ◌≤◌, ◌<◌};
-ghost use Rattle.std.proofs.Math.ListN as listed;
 ghost use Rattle.answers.specs.Checks.{any_of};
-ghost use Rattle.tables.specs.Row.{row_length, length_of, IsLargest, out_of_order, bad_radius, bad_radii, tail_faults, bad_row};
+ghost use Rattle.tables.specs.Row.{length_of, IsLargest, out_of_order, bad_radius, bad_radii, tail_faults, bad_row};
 
-use crate::inner::row::{byte, length, places, radii, radius, selector, step};
+use crate::inner::row::{Row, byte, length, places, radii, radius, selector, step};
 use ranges::inner::largest_radius;
 use selectors::inner::{field_of, select};
 
 // A radius other than 0 in front, or not larger than the one before.
-fn out_of_order(row: &[u8], number: usize) -> bool
-    requires { (listed.length row.now ≡ row_length) × (number < 8) }
+fn out_of_order(row: &Row, number: usize) -> bool
+    requires { number < 8 }
     ensures { result ≡ out_of_order row.now number }
 {
     if number == 0 {
@@ -21,8 +20,8 @@ fn out_of_order(row: &[u8], number: usize) -> bool
 }
 
 // The largest usable radius of a row, by the total of the row's own enumeration.
-fn largest_in(row: &[u8]) -> usize
-    requires { (listed.length row.now ≡ row_length) × (1 ≤ length_of row.now) × (length_of row.now ≤ 16) }
+fn largest_in(row: &Row) -> usize
+    requires { (1 ≤ length_of row.now) × (length_of row.now ≤ 16) }
     ensures { IsLargest row.now result }
 {
     let field = field_of(select(selector(row)));
@@ -31,8 +30,8 @@ fn largest_in(row: &[u8]) -> usize
 
 // A radius out of order or above the largest usable one, or an unused position that is not 0.
 #[tactic(auto, using(tables::proofs::Faults::unused_says, tables::proofs::Faults::disorder_says, tables::proofs::Faults::used_says))]
-fn bad_radius(row: &[u8], most: usize, number: usize) -> bool
-    requires { (listed.length row.now ≡ row_length) × IsLargest row.now most × (number < 8) }
+fn bad_radius(row: &Row, most: usize, number: usize) -> bool
+    requires { IsLargest row.now most × (number < 8) }
     ensures { result ≡ bad_radius row.now number }
 {
     if radii(row) <= number {
@@ -42,8 +41,8 @@ fn bad_radius(row: &[u8], most: usize, number: usize) -> bool
 }
 
 #[tactic(auto, using(tables::proofs::Faults::radius_bad, tables::proofs::Faults::radius_good), unfolding(tables::specs::Row::bad_radii))]
-fn bad_radii(row: &[u8]) -> bool
-    requires { (listed.length row.now ≡ row_length) × (1 ≤ length_of row.now) × (length_of row.now ≤ 16) }
+fn bad_radii(row: &Row) -> bool
+    requires { (1 ≤ length_of row.now) × (length_of row.now ≤ 16) }
     ensures { result ≡ bad_radii row.now 8 }
 {
     let most = largest_in(row);
@@ -56,8 +55,7 @@ fn bad_radii(row: &[u8]) -> bool
 }
 
 // What stands behind the radii: the step, the places, the selector, a zero.
-fn bad_tail(row: &[u8]) -> bool
-    requires { listed.length row.now ≡ row_length }
+fn bad_tail(row: &Row) -> bool
     ensures { result ≡ any_of (tail_faults row.now) }
 {
     step(row) < 1 || places(row) < 1 || 2 < selector(row).0 || byte(row, 15) != 0
@@ -65,8 +63,7 @@ fn bad_tail(row: &[u8]) -> bool
 
 // A row that is bad by itself.
 #[tactic(auto, unfolding(tables::specs::Row::bad_row))]
-pub fn bad_row(row: &[u8]) -> bool
-    requires { listed.length row.now ≡ row_length }
+pub fn bad_row(row: &Row) -> bool
     ensures { result ≡ bad_row row.now }
 {
     let l = length(row).0;

@@ -4,7 +4,7 @@ ghost use Rattle.std.proofs.Math.ListN as listed;
 ghost use Rattle.tables.specs.Table.{Good};
 ghost use Rattle.runs.specs.Run.{coordinates_in};
 
-use rows::inner::row::{length, places, row_at};
+use rows::inner::row::{length, places, rows};
 
 // The coordinates of all places together: those of a row are its places times its length.
 #[tactic(auto, using(crate::proofs::Counted::no_row, crate::proofs::Counted::row_more, crate::proofs::Counted::rows_small))]
@@ -13,8 +13,7 @@ pub fn coordinates(table: &[u8]) -> usize
     ensures { result ≡ coordinates_in table.now }
 {
     let mut sum = 0;
-    for number in 0..table.len() / 16 {
-        let row = row_at(table, number);
+    for row in rows(table) {
         sum += places(row) * length(row).0;
     }
     sum

@@ -19,6 +19,7 @@ use coding::inner::write_record;
 use coefficients::inner::coefficients::{first_at_fault, some_unusable};
 use pairing::inner::survey::Surveyed;
 use records::inner::Named;
+use rows::inner::row::Row;
 use tables::Book;
 
 impl Run<'_> {
@@ -60,7 +61,7 @@ impl Run<'_> {
 
 // The record of a vector in this row, with the book, the place and the row's number that it is to name, where the
 // record of that place stands in the buffer.
-fn write_at(row: &[u8], named: Named, coefficients: &[f32], out: &mut [u8])
+fn write_at(row: &Row, named: Named, coefficients: &[f32], out: &mut [u8])
     requires { Writable row.now coefficients.now named out.old }
     ensures { Wrote out.old (record_length * named.place) (record_named named row.now coefficients.now)
         record_length (record_length * named.place + record_length) out.new }

@@ -7,7 +7,7 @@ ghost use Rattle.sending.specs.Bounds.{Measured};
 
 use crate::inner::run::vector_at;
 use pairing::inner::walking::{Walk, walk_from, walked};
-use rows::inner::row::{length, row_at};
+use rows::inner::row::{Row, length, row_at};
 
 // A good table, its number of places, the row of place 0, and a coefficient for each of its coordinates.
 #[derive(Clone, Copy)]
@@ -30,7 +30,7 @@ pub struct Way {
 #[derive(Clone, Copy)]
 pub struct Stop<'a> {
     pub number: usize,
-    pub row: &'a [u8],
+    pub row: &'a Row,
     pub vector: &'a [f32],
 }
 

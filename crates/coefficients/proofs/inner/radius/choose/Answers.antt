@@ -29,4 +29,4 @@ returns c =
     let i = c.loop-number in
     let scan = i.invariant in
     let last : i.number ≡ radii_of c.args.row.now = omega (arith, c.loop-number-test.false, c.radii-number-end.ensures) in
-    (scan.best ∙ ap (λ (n : ℕ). first_best smaller (miss_by c.args.row.now c.args.total) (n - 1)) last, omega (arith, scan.reached, last, c.requires.2))
+    (scan.best ∙ ap (λ (n : ℕ). first_best smaller (miss_by c.args.row.now c.args.total) (n - 1)) last, omega (arith, scan.reached, last, c.requires.1))

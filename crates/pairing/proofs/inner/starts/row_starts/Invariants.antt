@@ -4,5 +4,5 @@ use Rattle.tables.specs.Table.{places_before}
 use Rattle.tables.specs.Way.{StartsTo}
 use Rattle.pairing.proofs.inner.starts.row_starts.Given as goal
 
-abbrev pub invariant-loop-row : goal.invariant-loop-row
-invariant-loop-row l = (length l.starts ≡ 33) × (l.sum ≡ places_before l.table l.row) × StartsTo l.table l.row l.starts
+abbrev pub invariant-loop-number : goal.invariant-loop-number
+invariant-loop-number l = (length l.starts ≡ 33) × (l.sum ≡ places_before l.table l.number) × StartsTo l.table l.number l.starts

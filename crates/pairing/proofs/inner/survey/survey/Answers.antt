@@ -13,44 +13,44 @@ use Rattle.tables.proofs.Rows.{size_passes, total_next, row_fails, total_fails, 
 use Rattle.pairing.proofs.inner.survey.survey.Goals.{then-sum-place, else-sum-place}
 use Rattle.pairing.proofs.inner.survey.survey.Goals as goal
 
-pub loop-at-init : goal.loop-at-init
+pub loop-number-init : goal.loop-number-init
 unfolding places_before rows_before
-loop-at-init c = (omega arith, refl, omega arith, refl, size_passes c.args.table.now (sym c.wrong_size.ensures ∙ c.if-wrong_size.false))
+loop-number-init c = (omega arith, refl, omega arith, refl, size_passes c.args.table.now (sym c.wrong_size.ensures ∙ c.if-wrong_size.false))
 
 pub returns-then-bad_row : goal.returns-then-bad_row
 returns-then-bad_row c =
     let t = c.args.table.now in
-    let at = c.loop-at in
+    let i = c.loop-number in
     let answer : List ℕ = 0 ∷ places_in t ∷ row_of t c.args.place ∷ [] in
-    let bad = ap bad_row (sym c.row_at-bytes.ensures.0) ∙ sym c.bad_row.ensures ∙ c.if-bad_row.true in
-    sym (each_refused (row_check t) answer at.at (rows_of t) (omega arith) (row_fails t at.at bad)) ∙ at.invariant.4 answer
+    let bad = ap bad_row (sym (c.rows-bytes-items.ensures.each i.number (omega arith))) ∙ sym c.bad_row.ensures ∙ c.if-bad_row.true in
+    sym (each_refused (row_check t) answer i.number (rows_of t) (omega arith) (row_fails t i.number bad)) ∙ i.invariant.4 answer
 
 pub returns-then-sum-gt4096 : goal.returns-then-sum-gt4096
 returns-then-sum-gt4096 c =
     let t = c.args.table.now in
-    let at = c.loop-at in
+    let i = c.loop-number in
     let answer : List ℕ = 0 ∷ places_in t ∷ row_of t c.args.place ∷ [] in
-    let bytes = c.row_at-bytes.ensures.0 in
+    let bytes = c.rows-bytes-items.ensures.each i.number (omega arith) in
     let good = ap bad_row (sym bytes) ∙ sym c.bad_row.ensures ∙ c.if-bad_row.false in
     let places = c.places-sum.ensures.0 ∙ ap places_of bytes in
-    sym (each_refused (row_check t) answer at.at (rows_of t) (omega arith) (total_fails t at.at good (omega (arith, places, total_next t at.at))))
-    ∙ at.invariant.4 answer
+    sym (each_refused (row_check t) answer i.number (rows_of t) (omega arith) (total_fails t i.number good (omega (arith, places, total_next t i.number))))
+    ∙ i.invariant.4 answer
 
 pub overflow_add-row : goal.overflow_add-row
-overflow_add-row c = record { fits = omega (arith, c.loop-at.invariant.3, rows_to c.args.table.now c.args.place c.loop-at.at) }
+overflow_add-row c = record { fits = omega (arith, c.loop-number.invariant.3, rows_to c.args.table.now c.args.place c.loop-number.number) }
 
-pub loop-at-preserved : goal.loop-at-preserved
-loop-at-preserved c =
+pub loop-number-preserved : goal.loop-number-preserved
+loop-number-preserved c =
     let t = c.args.table.now in
-    let at = c.loop-at in
-    let bytes = c.row_at-bytes.ensures.0 in
+    let i = c.loop-number in
+    let bytes = c.rows-bytes-items.ensures.each i.number (omega arith) in
     let places = c.places-sum.ensures.0 ∙ ap places_of bytes in
-    let sum = at.sum + c.places-sum.result in
-    let total : sum ≡ places_before t (suc at.at) = omega (arith, places, total_next t at.at) in
+    let sum = i.sum + c.places-sum.result in
+    let total : sum ≡ places_before t (suc i.number) = omega (arith, places, total_next t i.number) in
     let good = ap bad_row (sym bytes) ∙ sym c.bad_row.ensures ∙ c.if-bad_row.false in
-    let passed = row_passes t at.at good (omega arith) in
+    let passed = row_passes t i.number good (omega arith) in
     let row =
-    row_next t c.args.place at.at at.row sum c.if-sum-place.row at.invariant.3 total
+    row_next t c.args.place i.number i.row sum c.if-sum-place.row i.invariant.3 total
     (elim c.if-sum-place.branch [ then-sum-place w ↦ inl (w.if-sum-place.true, w.row-is) | else-sum-place w ↦ inr (w.if-sum-place.false, w.row-is) ]) in
     rw add-one
-    (omega arith, total, omega arith, row, λ answer. sym (each_passed (row_check t) answer at.at (rows_of t) (omega arith) passed) ∙ at.invariant.4 answer)
+    (omega arith, total, omega arith, row, λ answer. sym (each_passed (row_check t) answer i.number (rows_of t) (omega arith) passed) ∙ i.invariant.4 answer)

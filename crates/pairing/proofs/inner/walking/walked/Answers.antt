@@ -9,4 +9,4 @@ pub overflow_add-result : goal.overflow_add-result
 overflow_add-result c = record { fits = omega (arith, end_to c.requires.0 c.requires.1, c.places.ensures.1) }
 
 pub returns : goal.returns
-returns c = next_row c.requires.0 c.requires.1 c.if-place-walk.false (c.places.ensures.0 ∙ ap places_of c.row_at.ensures.0)
+returns c = next_row c.requires.0 c.requires.1 c.if-place-walk.false (c.places.ensures.0 ∙ ap places_of c.row_at.ensures)

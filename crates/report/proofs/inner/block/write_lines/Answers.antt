@@ -24,7 +24,7 @@ write_line-end-requires c =
     let so_far = c.loop-place.invariant.3 in
     let at_row = c.walked-walk.ensures in
     let h = c.loop-place-test.true in (
-      rw c.row_at.ensures.0 (row_bytes at_row),
+      rw c.row_at.ensures (row_bytes at_row),
       its_cell c.requires.spans h at_row c.locate-spot.ensures,
       omega (arith, so_far.to, wrote_length so_far, c.requires.room, h),
     )
@@ -42,5 +42,5 @@ loop-place-preserved c =
       omega (arith, h),
       walks_on at_row,
       line_more c.args.mode.0 c.args.table.now (page_spanned c.args.table.now c.args.page.now span) span.book i.invariant.0 (its_row at_row (inside spans h))
-          c.row_at.ensures.0 (its_bytes spans h at_row located) i.invariant.3 wrote,
+          c.row_at.ensures (its_bytes spans h at_row located) i.invariant.3 wrote,
     )

@@ -22,4 +22,4 @@ returns c k =
     let is_field : c.field_of-field.result ≡ field_in (selected_of (selector_of row)) =
     c.field_of-field.ensures ∙ ap field_in (c.select.ensures ∙ ap selected_of c.selector.ensures) in
     ap (λ (most : ℕ). ltb most k) (c.largest_radius.ensures ∙ ap₂ largest_radius is_field c.length.ensures)
-    ∙ radius_above_largest (field_in (selected_of (selector_of row))) row k c.requires.1 c.requires.2 (row_total row k)
+    ∙ radius_above_largest (field_in (selected_of (selector_of row))) row k c.requires.0 c.requires.1 (row_total row k)

@@ -21,7 +21,7 @@ locate-spot-requires c =
 pub look-requires : goal.look-requires
 look-requires c =
     let at_row = c.walked-walk.ensures in (
-      rw c.row_at.ensures.0 (row_bytes at_row),
+      rw c.row_at.ensures (row_bytes at_row),
       its_cell c.args.self.now.layout c.args.page.now c.requires.0 c.requires.1 c.loop-place.invariant c.loop-place-test.true at_row c.locate-spot.ensures,
     )
 
@@ -43,6 +43,6 @@ pub loop-place-preserved : goal.loop-place-preserved
 loop-place-preserved c =
     let seen = rw c.in_ok-seen.ensures.ok_part at c.look.ensures in
     let spot = c.locate-spot.result in
-    let judged = seen.1.is_judged ∙ ap (λ (row : List ℕ). judge c.args.mode.0 row (cell_there c.args.page.now spot)) c.row_at.ensures.0 in
+    let judged = seen.1.is_judged ∙ ap (λ (row : List ℕ). judge c.args.mode.0 row (cell_there c.args.page.now spot)) c.row_at.ensures in
     counts_on c.args.self.now.layout c.args.page.now c.requires.0 c.requires.1 c.loop-place.invariant c.loop-place-test.true c.walked-walk.ensures c.locate-spot.ensures
     seen.0 judged c.answer_number.ensures.0

@@ -11,27 +11,27 @@ pub vector_at-vector-requires : goal.vector_at-vector-requires
 vector_at-vector-requires c =
     let run = c.args.self.now in
     let h = inside run c.args.place c.requires.1 in
-    part_in c.requires.0 h c.walked-way.ensures c.row_at-row.ensures.0 c.length-l.ensures run.coefficients.now (measured run).run_long
+    part_in c.requires.0 h c.walked-way.ensures c.row_at-row.ensures c.length-l.ensures run.coefficients.now (measured run).run_long
 
 pub overflow_add-way : goal.overflow_add-way
 overflow_add-way c =
     let h = inside c.args.self.now c.args.place c.requires.1 in
-    omega (arith, next_fits c.requires.0 h c.walked-way.ensures c.row_at-row.ensures.0 c.length-l.ensures)
+    omega (arith, next_fits c.requires.0 h c.walked-way.ensures c.row_at-row.ensures c.length-l.ensures)
 
 pub returns-clause-goes_on : goal.returns-clause-goes_on
 returns-clause-goes_on c =
     let h = inside c.args.self.now c.args.place c.requires.1 in
-    goes_on c.requires.0 h c.walked-way.ensures c.row_at-row.ensures.0 c.length-l.ensures
+    goes_on c.requires.0 h c.walked-way.ensures c.row_at-row.ensures c.length-l.ensures
 
 pub returns-clause-its_row : goal.returns-clause-its_row
 returns-clause-its_row c =
     let run = c.args.self.now in
     let same = its_row c.walked-way.ensures (inside run c.args.place c.requires.1) in
-    (same, c.row_at-row.ensures.0 ∙ ap (row_at run.table.now) same)
+    (same, c.row_at-row.ensures ∙ ap (row_at run.table.now) same)
 
 pub returns-clause-its_vector : goal.returns-clause-its_vector
 returns-clause-its_vector c =
     let run = c.args.self.now in
     let h = inside run c.args.place c.requires.1 in
-    its_vector c.requires.0 h c.walked-way.ensures c.row_at-row.ensures.0 c.length-l.ensures run.coefficients.now (measured run).run_long
+    its_vector c.requires.0 h c.walked-way.ensures c.row_at-row.ensures c.length-l.ensures run.coefficients.now (measured run).run_long
     c.vector_at-vector.ensures
