@@ -3,7 +3,7 @@
 #![tactic(auto)]
 
 pub mod pages;
-pub mod said;
+mod said;
 
 ghost use Rattle.std.specs.Prelude.{◌≡◌, get_or};
 ghost use Rattle.shell.specs.Shell.{count_says};

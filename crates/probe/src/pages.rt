@@ -1,5 +1,6 @@
 // The calls of the page, lines, the conversions and send, exported to C for the second program alone: each gives an
-// item of what its call says.
+// item of what its call says. Their parameters stand one by one, and a call has a function for each number or value of
+// it, as tests/second/probe.h declares them.
 ghost use Rattle.std.specs.Prelude.{◌≡◌, get_or};
 ghost use Rattle.reporting.specs.Calls.{lines_says, lines_leaves};
 ghost use Rattle.layout.specs.Layout.{layout_of};

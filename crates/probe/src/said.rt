@@ -49,7 +49,7 @@ impl<T: Copy> Tells for Answer<T> {
     fn told(self, which: usize) -> u64 {
         match self {
             Answer::Sound(_) => item_of(&[0, 0], which),
-            Answer::Mended { value: _, distance } => item_of(&[1, 0, distance], which),
+            Answer::Mended { distance, .. } => item_of(&[1, 0, distance], which),
             Answer::Missing => item_of(&[2, 0], which),
             Answer::Contested => item_of(&[3, 0], which),
             Answer::Unreadable(Reason::NoSuchRadius) => item_of(&[4, 10], which),
@@ -84,7 +84,7 @@ impl Tells for Listed {
 }
 
 // An item of a refusal.
-pub fn refused(refusal: Refusal, which: usize) -> u64
+fn refused(refusal: Refusal, which: usize) -> u64
     ensures { result ≡ get_or (meaning refusal) which 0 }
 {
     let Numbers(number, first, second, _) = in_numbers(refusal);
