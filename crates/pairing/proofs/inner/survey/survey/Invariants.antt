@@ -1,5 +1,5 @@
--- What each turn of the loop keeps in `pairing::inner::survey::survey`: of the rows from
--- `number` on, what is left of the checks decides; the places and the row are those of the rows before.
+-- What each turn of the loop keeps in `pairing::inner::survey::survey`: of the rows from `number` on, what is left of
+-- the checks decides; the places and the row are those of the rows before.
 use Prim.Native.Nat.{ℕ, ◌-◌, ◌≤◌}
 use mathlib.Core.Path.{◌≡◌}
 use mathlib.Core.List.{List}
