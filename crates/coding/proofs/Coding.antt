@@ -17,14 +17,14 @@ use Rattle.tables.proofs.GoodRow.{row_lawful}
 use Rattle.shares.specs.Shares.{AllUpTo, Sharable, shared}
 use Rattle.shares.proofs.Mapped.{read_map}
 use Rattle.shares.proofs.Sharing.{shared_length, shared_up_to}
-use Rattle.numbering.specs.Numbered.{IsOfRow, index_in, Usable}
+use Rattle.numbering.specs.Numbered.{IsOfRow, index_in}
 use Rattle.numbering.specs.declared.inner.Numbering.{Numbering}
-use Rattle.numbering.proofs.OfRow.{enumeration_of_lem, usable_of}
+use Rattle.numbering.proofs.OfRow.{enumeration_of_lem}
 use Rattle.coefficients.specs.Coefficients.{AllUsable}
 use Rattle.coefficients.specs.Points.{magnitudes_of, total_of, signed_by, point_of}
 use Rattle.coefficients.specs.Radius.{chosen_radius_number}
 use Rattle.coefficients.proofs.Points.{point_on_shell}
-use Rattle.coefficients.proofs.Radii.{number_below, some_total}
+use Rattle.coefficients.proofs.Radii.{some_total}
 use Rattle.coding.specs.Bounds.{Codable}
 use Rattle.coding.specs.Coded.{radius_number_for, radius_for, codeword_for}
 
@@ -44,10 +44,10 @@ module _ {m : Numbering} {total : ℕ} {xs : List Float} {magnitudes : List ℕ}
   pub sharable : {rests : List ℕ} → length rests ≡ length xs → Sharable m.radius.0 total magnitudes rests
   sharable same = record {
     above_0 = c.above_0;
-    up_to_32 = c.shell_usable.radius_to;
+    up_to_32 = m.usable.radius_to;
     is_total = c.is_total ∙ ap sum_of (sym c.is_magnitudes);
     some = c.some;
-    up_to_16 = omega (arith, same_length, c.of_length, c.shell_usable.length_to);
+    up_to_16 = omega (arith, same_length, c.of_length, m.usable.length_to);
     all_up_to = rw c.is_magnitudes (magnitudes_up_to xs c.all_usable);
     has_room = same ∙ sym same_length;
   }
@@ -59,7 +59,7 @@ module _ {m : Numbering} {total : ℕ} {xs : List Float} {magnitudes : List ℕ}
 
     pub signable : (held : List ℤ) → length held ≡ length xs → AllUpTo 32 shares × (length shares ≡ length xs) × (length held ≡ length xs)
     signable held same = (
-      rw shares_are (λ i h. le_trans (shared_up_to m.radius.0 (magnitudes_of xs) some_magnitude i h) c.shell_usable.radius_to),
+      rw shares_are (λ i h. le_trans (shared_up_to m.radius.0 (magnitudes_of xs) some_magnitude i h) m.usable.radius_to),
       ap length shares_are ∙ shared_length m.radius.0 (magnitudes_of xs) ∙ length-map xs nearest_whole,
       same,
     )
@@ -68,10 +68,10 @@ module _ {m : Numbering} {total : ℕ} {xs : List Float} {magnitudes : List ℕ}
       is_point : point ≡ point_of m.radius.0 xs
       is_point = is_Signed ∙ ap (signed_by xs) shares_are
 
-      pub indexable : Usable m × OnShell m.length.0 m.radius.0 point
+      pub indexable : OnShell m.length.0 m.radius.0 point
       indexable =
           let on : OnShell (length xs) m.radius.0 (point_of m.radius.0 xs) = point_on_shell m.radius.0 xs some_magnitude in
-          (c.shell_usable, rw (is_point, ← c.of_length) on)
+          rw (is_point, ← c.of_length) on
 
 -- the index of the point of a radius, in equal enumerations
 same_index : {e e' : Enumeration} {k k' : ℕ} (xs : List Float) → e ≡ e' → k ≡ k' → e.index (point_of k xs) ≡ e'.index (point_of k' xs)
@@ -101,7 +101,6 @@ module _ (xs : List Float) {row : List ℕ} {total number : ℕ} {m : Numbering}
   codable good usable long some is_magnitudes =
       let above : 0 < m.radius.0 = omega arith in
       record {
-        shell_usable = usable_of of_row (good.radius_usable number (rw is_number (number_below row good total)));
         above_0 = above;
         some = some_total row good total (rw (of_row.is_radius, is_number) at above);
         of_length = long ∙ sym of_row.is_length;

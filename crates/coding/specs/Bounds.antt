@@ -1,7 +1,6 @@
 -- What is asked of a vector that is coded.
 use Rattle.std.specs.Prelude.{ℕ, ◌<◌, ◌≡◌, List, Float, length}
 use Rattle.tables.specs.Row.{length_of, IsRow}
-use Rattle.numbering.specs.Numbered.{Usable}
 use Rattle.numbering.specs.declared.inner.Numbering.{Numbering}
 use Rattle.records.specs.Record.{record_length}
 use Rattle.coefficients.specs.Coefficients.{AllUsable}
@@ -17,7 +16,6 @@ pub record Accepted (row : List ℕ) (xs : List Float) (held : List ℕ) : Type 
 -- a vector can be coded in a usable shell of its length and of a radius above 0, the one that m numbers, if not all
 -- of it becomes 0; `magnitudes` are its own
 pub record Codable (m : Numbering) (total : ℕ) (xs : List Float) (magnitudes : List ℕ) : Type 0 where
-  pub shell_usable : Usable m
   pub above_0 : 0 < m.radius.0
   pub some : 0 < total
   pub of_length : length xs ≡ m.length.0

@@ -11,7 +11,7 @@ ghost use Rattle.coding.specs.Coded.{radius_number_for, codeword_for, record_nam
 
 use coefficients::inner::coefficients::{write_magnitudes, write_signed};
 use coefficients::inner::radius::choose;
-use numbering::inner::{Numbering, index, of_row};
+use numbering::inner::Numbering;
 use records::inner::{Named, write};
 use rows::inner::row::Row;
 use shares::inner::{share, sum};
@@ -43,7 +43,7 @@ fn codeword(numbering: Numbering, total: u32, coefficients: &[f32], magnitudes: 
     let mut point = [0; 16];
     share(numbering.radius.0, total, magnitudes, &mut rests[..n]);
     write_signed(coefficients, magnitudes, &mut point[..n]);
-    index(numbering, &point[..n])
+    numbering.index(&point[..n])
 }
 
 // The radius number and the codeword. At radius 0 the point is zero, and its index 0.
@@ -56,7 +56,7 @@ fn code(row: &Row, coefficients: &[f32]) -> Coded
     let magnitudes = &mut room[..coefficients.len()];
     let total = measure(coefficients, magnitudes);
     let number = choose(row, total as usize);
-    let numbering = of_row(row, number);
+    let numbering = Numbering::of_row(row, number);
     if numbering.radius.0 == 0 {
         return Coded {
             number,

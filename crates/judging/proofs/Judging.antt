@@ -15,7 +15,7 @@ use Rattle.rules.specs.Judging.{mended_index, mended_as, judge_codeword, judge_i
 use Rattle.rules.specs.declared.Judged.{Judged}
 use Rattle.rules.specs.declared.Judged.TheVariants as judged
 use Rattle.rules.specs.declared.Reason.TheVariants as reason
-use Rattle.numbering.specs.declared.inner.Found.{Found}
+use Rattle.product.specs.declared.inner.range.Found.{Found}
 use Rattle.judging.specs.Seen.{Nowhere, Handed, NotSound}
 use Rattle.judging.specs.declared.inner.Seen.{Seen}
 

@@ -1,7 +1,7 @@
 -- What is seen of a cell: its answer, and what was found of it on the way.
 use Rattle.std.specs.Prelude.{ℕ, List, ◌≡◌}
 use Rattle.numbering.specs.Numbered.{FoundIn}
-use Rattle.numbering.specs.declared.inner.Found.{Found}
+use Rattle.product.specs.declared.inner.range.Found.{Found}
 use Rattle.layout.specs.Layout.{Cell}
 use Rattle.rules.specs.Judging.{judge}
 use Rattle.rules.specs.declared.Judged.{Judged}

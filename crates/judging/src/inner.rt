@@ -1,12 +1,13 @@
 // The answer of a cell, in a good row and a mode.
 ghost use Rattle.std.specs.Prelude.{◌≡◌, ◌≤◌, ◌<◌, length};
-ghost use Rattle.numbering.specs.Numbered.{Usable, total_in, names_in};
+ghost use Rattle.numbering.specs.Numbered.{total_in, names_in};
 ghost use Rattle.tables.specs.Row.{radii_of, radius_at, IsRow};
 ghost use Rattle.records.specs.Record.{record_length};
 ghost use Rattle.rules.specs.Judging.{judge_codeword, judge_in, judge_record};
 ghost use Rattle.judging.specs.Seen.{NotSound, Nowhere, Handed, Sees};
 
-use numbering::inner::{Found, Numbering, Sought, names, nowhere, of_row, seek};
+use numbering::inner::{Missed, Numbering};
+use product::inner::range::Found;
 use ranges::inner::{power, width};
 use records::inner::{codeword_in, radius_number_in};
 use rows::inner::row::{Row, radii};
@@ -21,7 +22,7 @@ pub struct Seen {
 
 // A codeword from the total on: past the width; in plain mode past the end; mended to an empty shape, or mended.
 fn judge_past(mode: Mode, numbering: Numbering, total: u64, n: u64) -> Judged
-    requires { Usable numbering × (total ≡ total_in numbering) × (0 < total) × (total ≤ n) }
+    requires { (total ≡ total_in numbering) × (0 < total) × (total ≤ n) }
     ensures { (result ≡ judge_codeword mode.0 (names_in numbering) total numbering.radius.0 n) × NotSound result }
 {
     let b = width(total) as usize;
@@ -33,7 +34,7 @@ fn judge_past(mode: Mode, numbering: Numbering, total: u64, n: u64) -> Judged
         return Judged::Unreadable(Reason::PastEnd { distance });
     }
     let index = n - power(b - 1);
-    if names(numbering, index) {
+    if numbering.names(index) {
         return Judged::Mended {
             radius: numbering.radius.0,
             index,
@@ -49,7 +50,7 @@ fn unseen(judged: Judged) -> Seen
 {
     Seen {
         judged,
-        found: nowhere(),
+        found: Found::NOWHERE,
     }
 }
 
@@ -59,18 +60,17 @@ fn judge_codeword(mode: Mode, row: &Row, number: usize, n: u64) -> Seen
     ensures { (result.judged ≡ judge_in mode.0 row.now (radius_at row.now number) n)
         × Handed row.now result.judged result.found }
 {
-    let numbering = of_row(row, number);
-    let radius = numbering.radius;
-    match seek(numbering, n) {
-        Sought::At(found) => Seen {
+    let numbering = Numbering::of_row(row, number);
+    match numbering.seek(n) {
+        Ok(found) => Seen {
             judged: Judged::Sound {
-                radius: radius.0,
+                radius: numbering.radius.0,
                 index: n,
             },
             found,
         },
-        Sought::Empty => unseen(Judged::Unreadable(Reason::EmptyShape)),
-        Sought::Past { total } => unseen(judge_past(mode, numbering, total, n)),
+        Err(Missed::Empty) => unseen(Judged::Unreadable(Reason::EmptyShape)),
+        Err(Missed::Past { total }) => unseen(judge_past(mode, numbering, total, n)),
     }
 }
 

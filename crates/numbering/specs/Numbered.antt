@@ -1,20 +1,20 @@
 -- What a numbering of the points of a shell is, and what is asked of it. m is the shell and its enumeration as the
 -- code hands them over, n an index.
-use Rattle.std.specs.Prelude.{ℕ, ◌≤◌, ◌<◌, ◌≡◌, List, Bool, true, false, ℤ}
+use Rattle.std.specs.Prelude.{ℕ, ◌≤◌, ◌<◌, ◌≡◌, List, Bool, true, false, ℤ, Result, Ok, Err}
 use Rattle.counts.specs.Counts.{range_start}
 use Rattle.counts.specs.Fields.{size_of}
 use Rattle.counts.specs.declared.Field.{Field}
 use Rattle.enumeration.specs.Enumeration.{Enumeration}
 use Rattle.enumeration.specs.Reading.{range_of}
 use Rattle.tables.specs.Row.{length_of, selector_of}
-use Rattle.tables.specs.Usable.{IsUsable}
-use Rattle.selectors.specs.Selected.{selected_of, enumeration_named}
+use Rattle.ranges.specs.declared.inner.usable.Shell.{Shell}
+use Rattle.selectors.specs.Selected.{selected_of, enumeration_named, field_in}
 use Rattle.selectors.specs.declared.inner.Selected.{Selected}
 use Rattle.selectors.specs.declared.inner.Selected.TheVariants as selected
+use Rattle.product.specs.declared.inner.range.Found.{Found}
 use Rattle.numbering.specs.declared.inner.Numbering.{Numbering}
-use Rattle.numbering.specs.declared.inner.Found.{Found}
-use Rattle.numbering.specs.declared.inner.Sought.{Sought}
-use Rattle.numbering.specs.declared.inner.Sought.TheVariants as sought
+use Rattle.numbering.specs.declared.inner.Missed.{Missed}
+use Rattle.numbering.specs.declared.inner.Missed.TheVariants as missed
 
 -- the enumeration that numbers the points
 unfoldable pub enumeration_in : Numbering → Enumeration
@@ -44,13 +44,14 @@ pub record IsOfRow (m : Numbering) (row : List ℕ) (k : ℕ) : Type 0 where
   pub is_radius : m.radius.0 ≡ k
   pub is_selected : m.selected ≡ selected_of (selector_of row)
 
--- the shell is usable
-abbrev pub Usable : Numbering → Type 0
-Usable m = IsUsable m.length.0 m.radius.0 (total_in m)
+-- the shell of a numbering, with the field by which its indices are counted
+pub record IsShellOf (m : Numbering) (shell : Shell) : Type 0 where
+  pub is_field : shell.field ≡ field_in m.selected
+  pub is_length : shell.length ≡ m.length
+  pub is_radius : shell.radius ≡ m.radius
 
--- n names a point of a usable shell
+-- n names a point
 pub record Names (m : Numbering) (n : ℕ) : Type 0 where
-  pub usable : Usable m
   pub below : n < total_in m
   pub named : names_in m n ≡ true
 
@@ -67,11 +68,11 @@ pub record IsFound (m : Numbering) (n : ℕ) (found : Found) : Type 0 where
   pub stands : found ≡ found_by m.selected m.length.0 m.radius.0 n
 
 -- what a search for n is to answer
-abbrev pub Seeks : Numbering → ℕ → Sought → Type 0
-Seeks m n (sought.At found) = (n < total_in m) × (names_in m n ≡ true) × IsFound m n found
-Seeks m n sought.Empty = (n < total_in m) × (names_in m n ≡ false)
-Seeks m n (sought.Past total) = (total_in m ≤ n) × (total ≡ total_in m)
+abbrev pub Seeks : Numbering → ℕ → Result Found Missed → Type 0
+Seeks m n (Ok found) = (n < total_in m) × (names_in m n ≡ true) × IsFound m n found
+Seeks m n (Err missed.Empty) = (n < total_in m) × (names_in m n ≡ false)
+Seeks m n (Err (missed.Past total)) = (total_in m ≤ n) × (total ≡ total_in m)
 
--- `found` is where n stands in the shell of radius k in a row, whichever numbering of it is asked
+-- `found` is where n stands in the shell of radius k in a row
 abbrev pub FoundIn : List ℕ → ℕ → ℕ → Found → Type 0
-FoundIn row k n found = (m : Numbering) → IsOfRow m row k → IsFound m n found
+FoundIn row k n found = found ≡ found_by (selected_of (selector_of row)) (length_of row) k n

@@ -3,7 +3,7 @@ use Prim.Native.Nat.{ℕ}
 use mathlib.Core.Bool.{Bool}
 use mathlib.Core.List.{List}
 use mathlib.Core.Path.{ap, ◌∙◌}
-use Rattle.numbering.proofs.OfRow.{total_of, names_of, usable_of}
+use Rattle.numbering.proofs.OfRow.{total_of, names_of}
 use Rattle.numbering.specs.Numbered.{IsOfRow, Names}
 use Rattle.numbering.specs.declared.inner.Numbering.{Numbering}
 use Rattle.rules.specs.Judging.{NamesPoint}
@@ -11,7 +11,6 @@ use Rattle.rules.specs.Judging.{NamesPoint}
 pub names_by : {m : Numbering} {row : List ℕ} {k n : ℕ} → IsOfRow m row k → NamesPoint row k n → Names m n
 names_by {n = n} of_row names =
     record {
-      usable = usable_of of_row names.usable;
       below = rw (total_of of_row) names.below;
       named = ap (λ (f : ℕ → Bool). f n) (names_of of_row) ∙ names.named;
     }

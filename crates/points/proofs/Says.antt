@@ -14,11 +14,9 @@ use Rattle.counts.specs.Distance.{distance}
 use Rattle.enumeration.specs.Point.{OnShell, radius_of}
 use Rattle.enumeration.specs.Enumeration.{Enumeration}
 use Rattle.enumeration.specs.Enumerations.{selected_by}
-use Rattle.counts.specs.declared.Length.{Length}
-use Rattle.counts.specs.declared.Radius.{Radius}
 use Rattle.tables.specs.Usable.{IsUsable}
 use Rattle.tables.proofs.Usable.{passes_usable}
-use Rattle.numbering.specs.Numbered.{enumeration_in, Usable}
+use Rattle.numbering.specs.Numbered.{enumeration_in}
 use Rattle.numbering.specs.declared.inner.Numbering.{Numbering}
 use Rattle.selectors.specs.Selected.{selected_of, enumeration_named}
 use Rattle.selectors.specs.declared.inner.Selected.{Selected}
@@ -29,21 +27,18 @@ use Rattle.indexing.specs.Calls.{past_end, selected_checks, index_rest, point_re
 pub let_through : (v l k : ℕ) → 0 ∷ [] ≡ first_of (selected_checks v l k) (0 ∷ []) → Passes (selected_checks v l k)
 let_through v l k e = says_passes [] [] (selected_checks v l k) (lit< tt, (lit< tt, (lit< tt, (lit< tt, tt)))) (sym e)
 
--- the numbering by the enumeration that was selected
-module _ (v : ℕ) (length : Length) (radius : Radius) {s : Selected} (e : s ≡ selected_of v) where
-  abbrev m : Numbering
-  m = record { selected = s; length = length; radius = radius }
+-- the enumeration that was selected
+module _ (v : ℕ) {s : Selected} (e : s ≡ selected_of v) where
+  named : enumeration_named s ≡ selected_by v
+  named = ap enumeration_named e ∙ named_by v
 
-  pub selected_in : enumeration_in m ≡ selected_by v
-  unfolding enumeration_in
-  selected_in = ap enumeration_named e ∙ named_by v
+  pub usable_in : (l k : ℕ) → 0 ∷ [] ≡ first_of (selected_checks v l k) (0 ∷ []) → IsUsable l k ((enumeration_named s).total l k)
+  usable_in l k through =
+      subst (λ (f : Enumeration). IsUsable l k (f.total l k)) (sym named) (passes_usable l k ((selected_by v).total l k) (let_through v l k through).1)
 
-  pub usable_in : 0 ∷ [] ≡ first_of (selected_checks v length.0 radius.0) (0 ∷ []) → Usable m
-  usable_in through =
-      let l = length.0 in
-      let k = radius.0 in
-      subst (λ (f : Enumeration). IsUsable l k (f.total l k)) (sym selected_in)
-      (passes_usable l k ((selected_by v).total l k) (let_through v l k through).1)
+pub selected_in : (v : ℕ) (m : Numbering) → m.selected ≡ selected_of v → enumeration_in m ≡ selected_by v
+unfolding enumeration_in
+selected_in v m e = named v e
 
 -- refusal 6 is judged at the total exactly
 at_end : (total n : ℕ) → total ≤ n → past_end n total ≡ true

@@ -6,7 +6,7 @@ ghost use Rattle.std.specs.Prelude.{◌≡◌, [], ◌∷◌};
 ghost use Rattle.std.proofs.Math.ListN as listed;
 ghost use Rattle.answers.specs.Checks.{first_of, leaves};
 ghost use Rattle.answers.specs.Refusals.{verdict_meaning};
-ghost use Rattle.numbering.specs.Numbered.{enumeration_in, index_in, point_in, Usable};
+ghost use Rattle.numbering.specs.Numbered.{enumeration_in, index_in, point_in};
 ghost use Rattle.indexing.specs.Calls.{selected_checks, index_rest, index_says, point_rest, point_says, point_leaves};
 ghost use Rattle.points.specs.Meanings.{index_meaning, point_meaning};
 
@@ -14,8 +14,8 @@ use answers::Refusal;
 use coordinates::inner::magnitude_sum;
 use counts::{Length, Radius};
 use enumeration::Selector;
-use numbering::inner::{Numbering, Sought, seek, write_point};
-use selectors::inner::{field_of, select};
+use numbering::inner::{Missed, Numbering};
+use selectors::inner::Selected;
 use shell::check_shell;
 
 // The call index: the index of a point of the shell, by the enumeration that is selected.
@@ -24,7 +24,7 @@ pub fn index(selector: Selector, length: Length, radius: Radius, x: &[i32]) -> R
 {
     check_selected(selector, length, radius)?;
     let numbering = Numbering {
-        selected: select(selector),
+        selected: Selected::from(selector),
         length,
         radius,
     };
@@ -45,7 +45,7 @@ pub fn point(
 {
     check_selected(selector, length, radius)?;
     let numbering = Numbering {
-        selected: select(selector),
+        selected: Selected::from(selector),
         length,
         radius,
     };
@@ -59,12 +59,11 @@ fn check_selected(selector: Selector, length: Length, radius: Radius) -> Result<
     if 2 < selector.0 {
         return Err(Refusal::NoSuchEnumeration);
     }
-    check_shell(field_of(select(selector)), length, radius)
+    check_shell(Selected::from(selector).field(), length, radius)
 }
 
 // What index does in a usable shell: the checks 4 and 5, and the work.
 fn index_usable(numbering: Numbering, x: &[i32]) -> Result<u64, Refusal>
-    requires { Usable numbering }
     ensures { index_meaning result
         ≡ first_of (index_rest numbering.length.0 numbering.radius.0 x.now) (0 ∷ index_in numbering x.now ∷ []) }
 {
@@ -74,12 +73,11 @@ fn index_usable(numbering: Numbering, x: &[i32]) -> Result<u64, Refusal>
     if magnitude_sum(x) != numbering.radius.0 as u64 {
         return Err(Refusal::MagnitudeSum);
     }
-    Ok(numbering::inner::index(numbering, x))
+    Ok(numbering.index(x))
 }
 
 // What point does in a usable shell: the checks 4, 6 and 15, and the work.
 fn point_usable(numbering: Numbering, n: u64, out: &mut [i32]) -> Result<(), Refusal>
-    requires { Usable numbering }
     ensures { (point_meaning result
         ≡ first_of (point_rest (enumeration_in numbering) numbering.length.0 numbering.radius.0 n (listed.length out.old)) (0 ∷ []))
         × (out.new
@@ -89,13 +87,13 @@ fn point_usable(numbering: Numbering, n: u64, out: &mut [i32]) -> Result<(), Ref
     if out.len() != numbering.length.0 {
         return Err(Refusal::BufferLength);
     }
-    match seek(numbering, n) {
-        Sought::At(found) => {
-            write_point(numbering, n, found, out);
+    match numbering.seek(n) {
+        Ok(found) => {
+            numbering.write_point(n, found, out);
             Ok(())
         }
-        Sought::Empty => Err(Refusal::EmptyShape),
-        Sought::Past { total } => Err(Refusal::IndexPastEnd {
+        Err(Missed::Empty) => Err(Refusal::EmptyShape),
+        Err(Missed::Past { total }) => Err(Refusal::IndexPastEnd {
             distance: n - total,
         }),
     }

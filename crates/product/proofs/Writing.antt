@@ -4,16 +4,12 @@ use Prim.Native.Nat.{ℕ, suc, ◌-◌, ◌≤◌, ◌<◌}
 use mathlib.Core.Path.{◌≡◌}
 use mathlib.Core.List.{◌∷◌}
 use native.Mathlib.Omega.{arith}
-use lib.Dec.{eqb}
-use lib.IntN.{ℤ, pos}
+use lib.IntN.{pos}
 use Rattle.counts.specs.Counts.{D}
-use Rattle.enumeration.specs.Point.{signed}
-use Rattle.enumeration.specs.Reading.{bit, first_magnitude, shape_left}
 use Rattle.enumeration.proofs.Patterns.{pattern_at_least, pattern_left}
 use Rattle.enumeration.proofs.Shapes.{first_read}
 use Rattle.enumeration.proofs.Steps.{write_zero, write_nonzero}
 use Rattle.product.specs.declared.inner.components.Components.{Components}
-use Rattle.product.specs.declared.inner.read.Step.{Step}
 use Rattle.product.specs.Components.{MakesPoint, written_from}
 use Rattle.product.specs.Steps.{Nonzero, taken}
 
@@ -55,11 +51,3 @@ module _ (q : Components) (behind : ℕ) (w : MakesPoint q (suc behind)) where
           },
           rw e (rw same at (write_nonzero (q.s - 1) behind q.k q.pattern q.shape q.sign (rw (same, ← e) h))),
         )
-
--- what the code has taken
-pub taken_is : (q : Components) (d i left : ℕ) (c : ℤ) → i ≡ first_magnitude (q.s - 1) q.k q.shape → left ≡ shape_left (q.s - 1) q.k q.shape
-    → c ≡ signed (eqb (bit (q.s - 1) q.sign) 1) i
-    → ◌≡◌ {A = Step}
-    (record { c = c; left = record { s = q.s - 1; k = q.k - i; pattern = q.pattern - d; shape = left; sign = q.sign } })
-    (taken q d)
-taken_is q d i left c e f g = rw (g, e, f)

@@ -2,17 +2,16 @@
 use Rattle.std.specs.Prelude.{ℕ, ◌≤◌, ◌<◌, ◌≡◌, List, ℤ}
 use Rattle.counts.specs.Counts.{D, S, range_start}
 use Rattle.counts.specs.Fields.{size_of, field_total}
-use Rattle.counts.specs.declared.Field.{Field}
-use Rattle.tables.specs.Usable.{IsUsable}
 use Rattle.enumeration.specs.Reading.{range_of, point_from}
+use Rattle.ranges.specs.declared.inner.usable.Shell.{Shell}
 use Rattle.product.specs.declared.inner.components.Components.{Components}
+use Rattle.product.specs.declared.inner.range.Found.{Found}
 
--- an index of a usable shell whose shapes have the field f, with the s and the start of its range
-pub record IsIndexOf (f : Field) (l k n s start : ℕ) : Type 0 where
-  pub usable : IsUsable l k (field_total (size_of f) l k)
-  pub index_below : n < field_total (size_of f) l k
-  pub range_s : s ≡ range_of (size_of f) l k n
-  pub range_start_lem : start ≡ range_start (size_of f) s l k
+-- an index of a shell, and the range that it was found in
+pub record IsIndexOf (shell : Shell) (n : ℕ) (found : Found) : Type 0 where
+  pub index_below : n < field_total (size_of shell.field) shell.length.0 shell.radius.0
+  pub range_s : found.s ≡ range_of (size_of shell.field) shell.length.0 shell.radius.0 n
+  pub range_start_lem : found.start ≡ range_start (size_of shell.field) found.s shell.length.0 shell.radius.0
 
 -- components from which a point of length l can be written
 pub record MakesPoint (components : Components) (l : ℕ) : Type 0 where

@@ -27,8 +27,5 @@ pub B_small_enough : (s : ℕ) → s ≤ 16 → B s ≤ 2 ^ 16
 unfolding B
 B_small_enough s h = pow_mono h
 
-pub two_fit : (d s : ℕ) → d ≤ 2 ^ 16 → s ≤ 2 ^ 31 → Fits w64 (d * s)
-two_fit d s p q = record { fits = lt_of_le_of_lt (mul-le-mul p q) (lit< tt) }
-
 pub three_fit : (d s b : ℕ) → d ≤ 2 ^ 16 → s ≤ 2 ^ 31 → b ≤ 2 ^ 16 → Fits w64 (d * s * b)
 three_fit d s b p q r = record { fits = lt_of_le_of_lt (mul-le-mul (mul-le-mul p q) r) (lit< tt) }

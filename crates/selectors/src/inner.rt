@@ -14,23 +14,27 @@ pub enum Selected {
 
 // The enumeration that a selector selects. Only here is a number made one, for the table and for the calls that are
 // given a selector.
-pub fn select(selector: Selector) -> Selected
-    ensures { result ≡ selected_of selector.0 }
-{
-    match selector.0 {
-        0 => Selected::Product(Field::Exact),
-        1 => Selected::Magnitude,
-        _ => Selected::Product(Field::Bits),
+impl From<Selector> for Selected {
+    ghost from_gives = { λ selector selected. selected ≡ selected_of selector.0 };
+
+    fn from(selector: Selector) -> Selected {
+        match selector.0 {
+            0 => Selected::Product(Field::Exact),
+            1 => Selected::Magnitude,
+            _ => Selected::Product(Field::Bits),
+        }
     }
 }
 
-// The shape field whose ranges have as many numbers as there are indices: the magnitude enumeration has N, as the exact
-// field has.
-pub fn field_of(selected: Selected) -> Field
-    ensures { result ≡ field_in selected }
-{
-    match selected {
-        Selected::Product(field) => field,
-        Selected::Magnitude => Field::Exact,
+impl Selected {
+    // The shape field whose ranges have as many numbers as there are indices: the magnitude enumeration has N, as the
+    // exact field has.
+    pub fn field(self) -> Field
+        ensures { result ≡ field_in self }
+    {
+        match self {
+            Selected::Product(field) => field,
+            Selected::Magnitude => Field::Exact,
+        }
     }
 }

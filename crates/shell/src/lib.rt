@@ -12,14 +12,20 @@ ghost use Rattle.shell.specs.Shell.{count_meaning, count_says};
 
 use answers::Refusal;
 use counts::{Field, Length, Radius};
-use ranges::inner::{index_count, largest_radius};
+use ranges::inner::largest_radius;
+use ranges::inner::usable::Shell;
 
 // The call count: how many points a shell has.
 pub fn count(length: Length, radius: Radius) -> Result<u64, Refusal>
     ensures { count_meaning result ≡ count_says length.0 radius.0 }
 {
     check_shell(Field::Exact, length, radius)?;
-    Ok(index_count(Field::Exact, length, radius))
+    let shell = Shell {
+        field: Field::Exact,
+        length,
+        radius,
+    };
+    Ok(shell.index_count())
 }
 
 // The checks 1, 2 and 3, by the total that a shape field makes: those of count, and of index and point behind that of

@@ -2,7 +2,7 @@
 use Prim.Native.Nat.{ℕ, zero, suc, ◌-◌, ◌*◌, ◌/◌, ◌≤◌, ◌<◌}
 use mathlib.Core.Path.{◌≡◌}
 use native.Mathlib.Omega.{arith}
-use native.Mathlib.Nat.{suc-mul, mul-suc, mul-le-mul}
+use native.Mathlib.Nat.{suc-mul, mul-suc}
 use Rattle.counts.specs.Counts.{D, S}
 use Rattle.counts.proofs.Pascal.{D_zero, D_addition, D_small}
 
@@ -13,9 +13,6 @@ D_one (suc l) = omega (arith, D_one l, D_addition 0 l, D_zero l)
 pub square_from : (l : ℕ) → l ≤ l * l
 square_from zero = omega arith
 square_from (suc l) = omega (arith, suc-mul l (suc l))
-
-pub square_to : (l : ℕ) → l ≤ 16 → l * l ≤ 256
-square_to l h = mul-le-mul h h
 
 pub D_two : (l : ℕ) → D 2 l ≡ (l * l - l) / 2
 D_two zero = D_small 2 0 (omega arith)

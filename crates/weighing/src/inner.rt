@@ -3,15 +3,15 @@
 ghost use Rattle.std.specs.Prelude.{◌≡◌, suc, ◌+◌, ◌-◌, ◌*◌, ◌≤◌, ◌<◌, true, nat_abs};
 ghost use Rattle.std.proofs.Math.ListN as listed;
 ghost use Rattle.counts.specs.Counts.{B};
-ghost use Rattle.counts.specs.Fields.{size_of, field_total};
+ghost use Rattle.counts.specs.Fields.{size_of};
 ghost use Rattle.enumeration.specs.Point.{OnShell, radius_of, is_nonzero, is_negative};
 ghost use Rattle.enumeration.specs.Product.{sign_bit, product_index};
-ghost use Rattle.tables.specs.Usable.{IsUsable};
 ghost use Rattle.weighing.specs.Weights.{nothing, weight_of, extended, in_front, Room, Summable, weighed, Weighable};
 
 use coordinates::inner::magnitude;
-use counts::{Field, Length, Radius};
-use ranges::inner::{pattern_count, range_start, room, shape_count, sign_count};
+use counts::{Length, Radius};
+use ranges::inner::usable::Shell;
+use ranges::inner::{pattern_count, room, shape_count, sign_count};
 
 // Of some coordinates: the number s of those that are nonzero, their sum k, the pattern index, the number of shapes
 // that come after theirs, and the sign index.
@@ -124,25 +124,29 @@ fn sum_up(weight: Weight, start: u64, shapes: u64, room: u64, signs: u64) -> u64
 }
 
 // The index of the point of this weight. At radius 0 there are no nonzero coordinates, and the index is 0.
-fn weigh(field: Field, length: Length, radius: Radius, weight: Weight) -> u64
-    requires { IsUsable length.0 radius.0 (field_total (size_of field) length.0 radius.0)
-        × Weighable (size_of field) length.0 radius.0 weight }
-    ensures { result ≡ weighed (size_of field) length.0 radius.0 weight }
+fn weigh(shell: Shell, weight: Weight) -> u64
+    requires { Weighable (size_of shell.field) shell.length.0 shell.radius.0 weight }
+    ensures { result ≡ weighed (size_of shell.field) shell.length.0 shell.radius.0 weight }
 {
     let s = weight.s;
     if s == 0 {
         return 0;
     }
-    let start = range_start(field, s, length, radius);
-    let shapes = shape_count(s, radius);
-    let room = room(field, shapes);
-    sum_up(weight, start, shapes as u64, room as u64, sign_count(s))
+    let shapes = shape_count(s, shell.radius);
+    let room = room(shell.field, shapes);
+    sum_up(
+        weight,
+        shell.range_start(s),
+        shapes as u64,
+        room as u64,
+        sign_count(s),
+    )
 }
 
-// The index of a point of a usable shell.
-pub fn index_of(field: Field, length: Length, radius: Radius, x: &[i32]) -> u64
-    requires { IsUsable length.0 radius.0 (field_total (size_of field) length.0 radius.0) × OnShell length.0 radius.0 x.now }
-    ensures { result ≡ product_index (size_of field) x.now }
+// The index of a point of the shell.
+pub fn index_of(shell: Shell, x: &[i32]) -> u64
+    requires { OnShell shell.length.0 shell.radius.0 x.now }
+    ensures { result ≡ product_index (size_of shell.field) x.now }
 {
-    weigh(field, length, radius, weight_of(x))
+    weigh(shell, weight_of(x))
 }

@@ -10,7 +10,8 @@ ghost use Rattle.wording.specs.Kinds.{kind_number};
 
 use counts::Radius;
 use judging::inner::Seen;
-use numbering::inner::{Found, of_radius, write_point};
+use numbering::inner::Numbering;
+use product::inner::range::Found;
 use rows::inner::row::Row;
 use rules::{Judged, Reason};
 use wording::AnswerKind;
@@ -21,7 +22,7 @@ fn write_found(row: &Row, radius: usize, n: u64, found: Found, out: &mut [i32])
         × (listed.length out.old ≡ length_of row.now) }
     ensures { out.new ≡ point_named row.now radius n }
 {
-    write_point(of_radius(row, Radius(radius)), n, found, out);
+    Numbering::of_radius(row, Radius(radius)).write_point(n, found, out);
 }
 
 // The same, where it is still to be sought.
@@ -29,7 +30,8 @@ fn write_sought(row: &Row, radius: usize, n: u64, out: &mut [i32])
     requires { IsRow row.now × NamesPoint row.now radius n × (listed.length out.old ≡ length_of row.now) }
     ensures { out.new ≡ point_named row.now radius n }
 {
-    numbering::inner::write_sought(of_radius(row, Radius(radius)), n, out);
+    let numbering = Numbering::of_radius(row, Radius(radius));
+    numbering.write_point(n, numbering.find(n), out);
 }
 
 // The point of a place that is sound or mended, and zeros for the others.

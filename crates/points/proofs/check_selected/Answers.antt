@@ -25,5 +25,5 @@ by_field v l k is =
 pub returns : goal.returns
 returns c =
     let a = c.args in
-    let is_field = c.field_of.ensures ∙ ap field_in c.select.ensures in
+    let is_field = c.field.ensures ∙ ap field_in c.from.ensures in
     rw (le-ltb 2 a.selector.0 (omega arith)) (c.check_shell.ensures ∙ by_field a.selector.0 a.length.0 a.radius.0 is_field)

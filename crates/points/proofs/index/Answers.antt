@@ -10,10 +10,10 @@ use Rattle.indexing.specs.Calls.{selected_checks, index_rest}
 use Rattle.points.proofs.Says.{let_through, selected_in, usable_in}
 use Rattle.points.proofs.index.Goals as goal
 
-pub index_usable-requires : goal.index_usable-requires
-index_usable-requires c =
+pub invariant_of-numbering : goal.invariant_of-numbering
+invariant_of-numbering c =
     let a = c.args in
-    usable_in a.selector.0 a.length a.radius c.select.ensures c.in_ok-check_selected.ensures
+    record { usable = usable_in a.selector.0 c.from.ensures a.length.0 a.radius.0 c.in_ok-check_selected.ensures }
 
 pub returns : goal.returns
 returns c =
@@ -21,7 +21,7 @@ returns c =
     let v = a.selector.0 in
     let l = a.length.0 in
     let k = a.radius.0 in
-    let e = selected_in v a.length a.radius c.select.ensures in
+    let e = selected_in v _ c.from.ensures in
     c.index_usable.ensures
     ∙ ap (λ (f : Enumeration). first_of (index_rest l k a.x.now) (0 ∷ f.index a.x.now ∷ [])) e
     ∙ passed_says (selected_checks v l k) (index_rest l k a.x.now) (0 ∷ (selected_by v).index a.x.now ∷ [])

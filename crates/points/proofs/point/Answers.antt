@@ -12,10 +12,10 @@ use Rattle.indexing.specs.Calls.{selected_checks, point_rest}
 use Rattle.points.proofs.Says.{let_through, selected_in, usable_in}
 use Rattle.points.proofs.point.Goals as goal
 
-pub point_usable-requires : goal.point_usable-requires
-point_usable-requires c =
+pub invariant_of-numbering : goal.invariant_of-numbering
+invariant_of-numbering c =
     let a = c.args in
-    usable_in a.selector.0 a.length a.radius c.select.ensures c.in_ok-check_selected.ensures
+    record { usable = usable_in a.selector.0 c.from.ensures a.length.0 a.radius.0 c.in_ok-check_selected.ensures }
 
 pub returns : goal.returns
 returns c =
@@ -26,7 +26,7 @@ returns c =
     let held = a.out.now in
     let rest : Enumeration → List Check = λ f. point_rest f l k a.n (length held) in
     let through = let_through v l k c.in_ok-check_selected.ensures in
-    let e = selected_in v a.length a.radius c.select.ensures in
+    let e = selected_in v _ c.from.ensures in
     let did = c.point_usable.ensures in (
       did.0 ∙ ap (λ (f : Enumeration). first_of (rest f) (0 ∷ [])) e ∙ passed_says (selected_checks v l k) (rest (selected_by v)) (0 ∷ []) through,
       did.1 ∙ ap (λ (f : Enumeration). leaves (rest f) (f.point l k a.n) held) e

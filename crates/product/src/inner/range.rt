@@ -3,80 +3,77 @@
 ghost use Rattle.std.specs.Prelude.{◌≡◌, ltb};
 ghost use Rattle.counts.specs.Counts.{range_start};
 ghost use Rattle.counts.specs.Fields.{size_of, field_total};
-ghost use Rattle.counts.specs.declared.Field.TheVariants.{Bits};
 ghost use Rattle.enumeration.specs.Reading.{range_of, product_names};
 ghost use Rattle.product.specs.Components.{IsIndexOf};
-ghost use Rattle.tables.specs.Usable.{IsUsable};
 
-use counts::{Field, Length, Radius};
-use ranges::inner::{most_nonzero, range_size, room, shape_count};
+use counts::Field;
+use ranges::inner::usable::Shell;
+use ranges::inner::{room, shape_count};
 
+// Where an index stands among the others, as a search found it: in the range for s, which starts there.
 #[derive(Clone, Copy)]
-pub struct Range {
+pub struct Found {
     pub s: usize,
     pub start: u64,
 }
 
-// The first range, counted down from s = m, that holds n: as each starts where the one before ends, the first that
-// ends past n. Where none does, s is 0 and the start is the end of the last.
-pub fn locate(field: Field, length: Length, radius: Radius, n: u64) -> Range
-    requires { IsUsable length.0 radius.0 (field_total (size_of field) length.0 radius.0) }
-    ensures { (result.s ≡ range_of (size_of field) length.0 radius.0 n) × (result.start ≡ range_start (size_of field) result.s length.0 radius.0) }
-{
-    let mut s = most_nonzero(length, radius);
-    let mut start: u64 = 0;
-    let found = loop {
-        if s == 0 {
-            break Range { s, start };
-        }
-        let end = start + range_size(field, s, length, radius);
-        if n < end {
-            break Range { s, start };
-        }
-        start = end;
-        s -= 1;
-    };
-    found
+impl Found {
+    // What stands for an index where there is none, or nothing to tell.
+    pub const NOWHERE: Found = Found { s: 0, start: 0 };
 }
 
-// Whether the index is below the total. Radius 0 has no range from 1 on, and the one index 0. The field and the length
-// are what the contract speaks of.
-pub fn holds(field: Field, range: Range, length: Length, radius: Radius, n: u64) -> bool
-    requires { IsUsable length.0 radius.0 (field_total (size_of field) length.0 radius.0)
-        × (range.s ≡ range_of (size_of field) length.0 radius.0 n) }
-    ensures { result ≡ ltb n (field_total (size_of field) length.0 radius.0) }
+// The first range, counted down from s = m, that holds n: as each starts where the one before ends, the first that
+// ends past n. Where none does, s is 0 and the start is the end of the last.
+pub fn locate(shell: Shell, n: u64) -> Found
+    ensures { (result.s ≡ range_of (size_of shell.field) shell.length.0 shell.radius.0 n)
+        × (result.start ≡ range_start (size_of shell.field) result.s shell.length.0 shell.radius.0) }
 {
-    if 0 < range.s {
+    let mut start = 0;
+    for s in (1..=shell.most_nonzero()).rev() {
+        let end = start + shell.range_size(s);
+        if n < end {
+            return Found { s, start };
+        }
+        start = end;
+    }
+    Found { s: 0, start }
+}
+
+// Whether the index is below the total. Radius 0 has no range from 1 on, and the one index 0.
+pub fn holds(shell: Shell, n: u64, found: Found) -> bool
+    requires { found.s ≡ range_of (size_of shell.field) shell.length.0 shell.radius.0 n }
+    ensures { result ≡ ltb n (field_total (size_of shell.field) shell.length.0 shell.radius.0) }
+{
+    if 0 < found.s {
         return true;
     }
-    if 0 < radius.0 {
+    if 0 < shell.radius.0 {
         return false;
     }
     n == 0
 }
 
-// Whether the shape field of an index is the number of a shape, where the field has bits. At radius 0 there is one
-// shape.
-fn is_shape(length: Length, radius: Radius, n: u64, range: Range) -> bool
-    requires { IsIndexOf Bits length.0 radius.0 n range.s range.start }
-    ensures { result ≡ product_names (size_of Bits) length.0 radius.0 n }
+// Whether the shape field of an index is the number of a shape. At radius 0 there is one shape.
+fn is_shape(shell: Shell, n: u64, found: Found) -> bool
+    requires { IsIndexOf shell n found }
+    ensures { result ≡ product_names (size_of shell.field) shell.length.0 shell.radius.0 n }
 {
-    let s = range.s;
+    let s = found.s;
     if s == 0 {
         return true;
     }
-    let block = ((n - range.start) >> s) as u32;
-    let shapes = shape_count(s, radius);
-    block % room(Field::Bits, shapes) < shapes
+    let block = ((n - found.start) >> s) as u32;
+    let shapes = shape_count(s, shell.radius);
+    block % room(shell.field, shapes) < shapes
 }
 
 // Whether an index below the total names a point. Where the field is exact, each does.
-pub fn names(field: Field, length: Length, radius: Radius, n: u64, range: Range) -> bool
-    requires { IsIndexOf field length.0 radius.0 n range.s range.start }
-    ensures { result ≡ product_names (size_of field) length.0 radius.0 n }
+pub fn names(shell: Shell, n: u64, found: Found) -> bool
+    requires { IsIndexOf shell n found }
+    ensures { result ≡ product_names (size_of shell.field) shell.length.0 shell.radius.0 n }
 {
-    match field {
+    match shell.field {
         Field::Exact => true,
-        Field::Bits => is_shape(length, radius, n, range),
+        Field::Bits => is_shape(shell, n, found),
     }
 }

@@ -9,9 +9,10 @@ ghost use Rattle.product.specs.Components.{IsIndexOf, MakesPoint, written_from};
 ghost use Rattle.product.specs.Steps.{IsFirstOf, Nonzero, taken};
 
 use crate::inner::components::Components;
-use crate::inner::range::Range;
+use crate::inner::range::Found;
 use coordinates::inner::signed;
-use counts::{Field, Length, Radius};
+use counts::{Length, Radius};
+use ranges::inner::usable::Shell;
 use ranges::inner::{pattern_count, room, shape_count};
 
 // The first magnitude of a shape, and the number of the shape that is left.
@@ -27,18 +28,15 @@ fn search_magnitude(s: usize, radius: Radius, shape: u32) -> First
     requires { (0 < s) × (s < 16) × (radius.0 ≤ 32) × (shape < S (suc s) radius.0) }
     ensures { IsFirstOf s radius.0 shape result.magnitude result.left }
 {
-    let sum = radius.0;
-    let mut k = sum - 1;
     let mut left = shape;
-    let mut begin = shape_count(s, Radius(k));
-    while begin <= left {
+    let mut magnitude = 1;
+    loop {
+        let begin = shape_count(s, Radius(radius.0 - magnitude));
+        if left < begin {
+            return First { magnitude, left };
+        }
         left -= begin;
-        k -= 1;
-        begin = shape_count(s, Radius(k));
-    }
-    First {
-        magnitude: sum - k,
-        left,
+        magnitude += 1;
     }
 }
 
@@ -48,19 +46,17 @@ fn first_magnitude(s: usize, radius: Radius, shape: u32) -> First
     requires { (s < 16) × (radius.0 ≤ 32) × (shape < S (suc s) radius.0) }
     ensures { IsFirstOf s radius.0 shape result.magnitude result.left }
 {
-    if s == 0 {
-        return First {
+    match s {
+        0 => First {
             magnitude: radius.0,
             left: 0,
-        };
-    }
-    if s == 1 {
-        return First {
+        },
+        1 => First {
             magnitude: shape as usize + 1,
             left: 0,
-        };
+        },
+        _ => search_magnitude(s, radius, shape),
     }
-    search_magnitude(s, radius, shape)
 }
 
 // A coordinate, and the components of what is left to write.
@@ -111,56 +107,49 @@ fn write(components: Components, out: &mut [i32])
     requires { MakesPoint components (listed.length out.old) }
     ensures { out.new ≡ written_from components (listed.length out.old) }
 {
+    let length = out.len();
     let mut left = components;
-    let mut at = 0;
-    while at < out.len() {
-        let step = next(left, out.len() - at - 1);
-        let c = step.c;
-        out[at] = c;
+    for (at, c) in out.iter_mut().enumerate() {
+        let step = next(left, length - at - 1);
+        *c = step.c;
         left = step.left;
-        at += 1;
     }
 }
 
 // The components of the point of an index, from its position in its range. At radius 0 no coordinate is nonzero.
-fn components_at(field: Field, length: Length, radius: Radius, n: u64, range: Range) -> Components
-    requires { IsIndexOf field length.0 radius.0 n range.s range.start × (product_names (size_of field) length.0 radius.0 n ≡ true) }
-    ensures { MakesPoint result length.0 × (product_point (size_of field) length.0 radius.0 n ≡ written_from result length.0) }
+fn components_at(shell: Shell, n: u64, found: Found) -> Components
+    requires { IsIndexOf shell n found × (product_names (size_of shell.field) shell.length.0 shell.radius.0 n ≡ true) }
+    ensures { MakesPoint result shell.length.0
+        × (product_point (size_of shell.field) shell.length.0 shell.radius.0 n ≡ written_from result shell.length.0) }
 {
-    let s = range.s;
-    let within = n - range.start;
+    let s = found.s;
+    let k = shell.radius.0;
+    let sign = n - found.start;
     if s == 0 {
         return Components {
             s,
-            k: radius.0,
+            k,
             pattern: 0,
             shape: 0,
-            sign: within,
+            sign,
         };
     }
-    let block = (within >> s) as u32;
-    let shapes = room(field, shape_count(s, radius));
+    let block = (sign >> s) as u32;
+    let shapes = room(shell.field, shape_count(s, shell.radius));
     Components {
         s,
-        k: radius.0,
+        k,
         pattern: block / shapes,
         shape: block % shapes,
-        sign: within,
+        sign,
     }
 }
 
-// The point of an index of a usable shell that names one.
-pub fn write_point(
-    field: Field,
-    length: Length,
-    radius: Radius,
-    n: u64,
-    range: Range,
-    out: &mut [i32],
-)
-    requires { IsIndexOf field length.0 radius.0 n range.s range.start
-        × (product_names (size_of field) length.0 radius.0 n ≡ true) × (listed.length out.old ≡ length.0) }
-    ensures { out.new ≡ product_point (size_of field) length.0 radius.0 n }
+// The point of an index of the shell that names one.
+pub fn write_point(shell: Shell, n: u64, found: Found, out: &mut [i32])
+    requires { IsIndexOf shell n found × (product_names (size_of shell.field) shell.length.0 shell.radius.0 n ≡ true)
+        × (listed.length out.old ≡ shell.length.0) }
+    ensures { out.new ≡ product_point (size_of shell.field) shell.length.0 shell.radius.0 n }
 {
-    write(components_at(field, length, radius, n, range), out);
+    write(components_at(shell, n, found), out);
 }

@@ -5,7 +5,7 @@ ghost use Rattle.tables.specs.Row.{length_of, IsLargest, out_of_order, bad_radiu
 
 use crate::inner::row::{Row, byte, length, places, radii, radius, selector, step};
 use ranges::inner::largest_radius;
-use selectors::inner::{field_of, select};
+use selectors::inner::Selected;
 
 // A radius other than 0 in front, or not larger than the one before.
 fn out_of_order(row: &Row, number: usize) -> bool
@@ -24,7 +24,7 @@ fn largest_in(row: &Row) -> usize
     requires { (1 ≤ length_of row.now) × (length_of row.now ≤ 16) }
     ensures { IsLargest row.now result }
 {
-    let field = field_of(select(selector(row)));
+    let field = Selected::from(selector(row)).field();
     largest_radius(field, length(row))
 }
 

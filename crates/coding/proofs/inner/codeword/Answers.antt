@@ -10,7 +10,7 @@ use Rattle.coding.proofs.Coding.{sharable, signable, indexable}
 use Rattle.coding.proofs.inner.codeword.Goals as goal
 
 up_to_16 : {m : Numbering} {total : ℕ} {xs : List Float} {magnitudes : List ℕ} → Codable m total xs magnitudes → length xs ≤ 16
-up_to_16 c = omega (arith, c.of_length, c.shell_usable.length_to)
+up_to_16 {m} c = omega (arith, c.of_length, m.usable.length_to)
 
 pub share-requires : goal.share-requires
 share-requires c = sharable c.requires (length-take-le _ _ (up_to_16 c.requires))

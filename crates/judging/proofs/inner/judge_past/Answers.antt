@@ -4,6 +4,7 @@ use Rattle.std.proofs.Common.{◌-◌, ◌^◌, ◌≡◌, ℕ, sym, ap, ◌∙�
 use Rattle.counts.specs.Distance.{distance}
 use Rattle.counts.specs.Width.{width}
 use Rattle.numbering.specs.Numbered.{names_in}
+use Rattle.numbering.proofs.Selected.{usable_in}
 use Rattle.laws.proofs.Mending.{half_to, mended_below}
 use Rattle.judging.proofs.Judging.{width_to, codeword_wide, codeword_past, codeword_mended, codeword_mended_empty}
 use Rattle.judging.proofs.inner.judge_past.Goals as goal
@@ -17,7 +18,7 @@ module _ (total : ℕ) {b r : ℕ} (is_width : b ≡ width total) where
   is_half power = power ∙ ap (λ (n : ℕ). 2 ^ (n - 1)) is_width
 
 pub power-requires : goal.power-requires
-power-requires c = omega (arith, c.width-b.ensures, width_to c.args.total (rw c.requires.1 c.requires.0.points_to))
+power-requires c = omega (arith, c.width-b.ensures, width_to c.args.total (rw c.requires.0 (usable_in c.args.numbering).points_to))
 
 pub returns-then-power-n : goal.returns-then-power-n
 returns-then-power-n c =
@@ -31,24 +32,24 @@ returns-then-mode-eq-PLAIN c =
     let a = c.args in
     let power = is_power a.total c.width-b.ensures c.power.ensures in
     let is_plain = eq-eqb a.mode.0 0 (omega arith) in
-    (codeword_past a.mode.0 (names_in a.numbering) a.total a.numbering.radius.0 a.n (omega (arith, power, c.if-power-n.false)) c.requires.3 is_plain, tt)
+    (codeword_past a.mode.0 (names_in a.numbering) a.total a.numbering.radius.0 a.n (omega (arith, power, c.if-power-n.false)) c.requires.2 is_plain, tt)
 
 pub power-requires-2 : goal.power-requires-2
-power-requires-2 c = omega (arith, c.width-b.ensures, width_to c.args.total (rw c.requires.1 c.requires.0.points_to))
+power-requires-2 c = omega (arith, c.width-b.ensures, width_to c.args.total (rw c.requires.0 (usable_in c.args.numbering).points_to))
 
 pub overflow_sub-index : goal.overflow_sub-index
 overflow_sub-index c =
     let a = c.args in
     let power = is_power a.total c.width-b.ensures c.power.ensures in
     let half = is_half a.total c.width-b.ensures c.power-2.ensures in
-    omega (arith, half, half_to a.total a.n c.requires.2 (omega (arith, power, c.if-power-n.false)) c.requires.3)
+    omega (arith, half, half_to a.total a.n c.requires.1 (omega (arith, power, c.if-power-n.false)) c.requires.2)
 
 pub names-requires : goal.names-requires
 names-requires c =
     let a = c.args in
     let power = is_power a.total c.width-b.ensures c.power.ensures in
     let half = is_half a.total c.width-b.ensures c.power-2.ensures in
-    (c.requires.0, rw (half, ← c.requires.1) (mended_below a.total a.n c.requires.2 (omega (arith, power, c.if-power-n.false)) c.requires.3))
+    rw (half, ← c.requires.0) (mended_below a.total a.n c.requires.1 (omega (arith, power, c.if-power-n.false)) c.requires.2)
 
 pub returns-then-names : goal.returns-then-names
 unfolding distance
@@ -59,7 +60,7 @@ returns-then-names c =
     let mends = ne_eqb a.mode.0 0 (λ (e : a.mode.0 ≡ 0). omega arith) in
     let named = rw half at (sym c.names.ensures ∙ c.if-names.true) in (
       rw half
-          (codeword_mended a.mode.0 (names_in a.numbering) a.total a.numbering.radius.0 a.n (omega (arith, power, c.if-power-n.false)) c.requires.3 mends named),
+          (codeword_mended a.mode.0 (names_in a.numbering) a.total a.numbering.radius.0 a.n (omega (arith, power, c.if-power-n.false)) c.requires.2 mends named),
       tt,
     )
 
@@ -70,4 +71,4 @@ returns c =
     let half = is_half a.total c.width-b.ensures c.power-2.ensures in
     let mends = ne_eqb a.mode.0 0 (λ (e : a.mode.0 ≡ 0). omega arith) in
     let empty = rw half at (sym c.names.ensures ∙ c.if-names.false) in
-    (codeword_mended_empty a.mode.0 (names_in a.numbering) a.total a.numbering.radius.0 a.n (omega (arith, power, c.if-power-n.false)) c.requires.3 mends empty, tt)
+    (codeword_mended_empty a.mode.0 (names_in a.numbering) a.total a.numbering.radius.0 a.n (omega (arith, power, c.if-power-n.false)) c.requires.2 mends empty, tt)

@@ -9,13 +9,13 @@ use Rattle.weighing.proofs.inner.index_of.Goals as goal
 pub weigh-requires : goal.weigh-requires
 weigh-requires c =
     let a = c.args in
-    let p = c.requires in
-    (p.0, rw c.weight_of.ensures (weighable (size_of a.field) (is_field a.field) a.length.0 a.radius.0 a.x.now p.1 p.0).0)
+    let F = size_of a.shell.field in
+    rw c.weight_of.ensures (weighable F (is_field a.shell.field) a.shell.length.0 a.shell.radius.0 a.x.now c.requires a.shell.usable).0
 
 pub returns : goal.returns
 returns c =
     let a = c.args in
-    let p = c.requires in
+    let F = size_of a.shell.field in
     c.weigh.ensures
-    ∙ ap (weighed (size_of a.field) a.length.0 a.radius.0) c.weight_of.ensures
-    ∙ (weighable (size_of a.field) (is_field a.field) a.length.0 a.radius.0 a.x.now p.1 p.0).1
+    ∙ ap (weighed F a.shell.length.0 a.shell.radius.0) c.weight_of.ensures
+    ∙ (weighable F (is_field a.shell.field) a.shell.length.0 a.shell.radius.0 a.x.now c.requires a.shell.usable).1

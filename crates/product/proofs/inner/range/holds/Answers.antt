@@ -16,18 +16,18 @@ at_0 : (F : ℕ → ℕ → ℕ) (l k n : ℕ) → k ≡ 0 → eqb n 0 ≡ ltb n
 at_0 F l k zero e = rw (e, total_at_0 F l)
 at_0 F l k (suc n) e = rw (e, total_at_0 F l) (ne_eqb (suc n) 0 (omega arith) ∙ sym (le-ltb (suc n) 1 (omega arith)))
 
-pub returns-then-range-gt0 : goal.returns-then-range-gt0
-returns-then-range-gt0 c =
-    let F = size_of c.args.field in
-    let below = found_below F c.args.length.0 c.args.radius.0 c.args.n (omega (arith, c.if-range-gt0.true, c.requires.1)) in
-    sym (lt-ltb c.args.n (field_total F c.args.length.0 c.args.radius.0) below)
+pub returns-then-found-gt0 : goal.returns-then-found-gt0
+returns-then-found-gt0 c =
+    let F = size_of c.args.shell.field in
+    let below = found_below F c.args.shell.length.0 c.args.shell.radius.0 c.args.n (omega (arith, c.if-found-gt0.true, c.requires)) in
+    sym (lt-ltb c.args.n (field_total F c.args.shell.length.0 c.args.shell.radius.0) below)
 
-pub returns-then-radius-gt0 : goal.returns-then-radius-gt0
-returns-then-radius-gt0 c =
-    let F = size_of c.args.field in
-    let none : range_of F c.args.length.0 c.args.radius.0 c.args.n ≡ 0 = omega (arith, c.if-range-gt0.false, c.requires.1) in
-    let past = none_found F (is_field c.args.field) c.args.length.0 c.args.radius.0 c.args.n none (omega arith) in
-    sym (le-ltb c.args.n (field_total F c.args.length.0 c.args.radius.0) past)
+pub returns-then-shell-gt0 : goal.returns-then-shell-gt0
+returns-then-shell-gt0 c =
+    let F = size_of c.args.shell.field in
+    let none : range_of F c.args.shell.length.0 c.args.shell.radius.0 c.args.n ≡ 0 = omega (arith, c.if-found-gt0.false, c.requires) in
+    let past = none_found F (is_field c.args.shell.field) c.args.shell.length.0 c.args.shell.radius.0 c.args.n none (omega arith) in
+    sym (le-ltb c.args.n (field_total F c.args.shell.length.0 c.args.shell.radius.0) past)
 
 pub returns : goal.returns
-returns c = at_0 (size_of c.args.field) c.args.length.0 c.args.radius.0 c.args.n (omega (arith, c.if-radius-gt0.false))
+returns c = at_0 (size_of c.args.shell.field) c.args.shell.length.0 c.args.shell.radius.0 c.args.n (omega (arith, c.if-shell-gt0.false))

@@ -6,37 +6,37 @@ use Rattle.product.proofs.Located.{start_to, s_to, countable, field_from, compon
 use Rattle.ranges.proofs.Rooms.{shapes_to, room_size}
 use Rattle.product.proofs.inner.read.components_at.Goals as goal
 
-pub overflow_sub-within : goal.overflow_sub-within
-overflow_sub-within c = start_to c.args.field c.args.length.0 c.args.radius.0 c.args.n c.args.range.s c.args.range.start c.requires.0
+pub overflow_sub-sign : goal.overflow_sub-sign
+overflow_sub-sign c = start_to c.args.shell c.args.n c.args.found c.requires.0
 
 pub returns-then-s-eq0 : goal.returns-then-s-eq0
 returns-then-s-eq0 c =
-    no_components c.args.field c.args.length.0 c.args.radius.0 c.args.n c.args.range.s c.args.range.start c.requires.0 c.requires.1 c.if-s-eq0.true
+    no_components c.args.shell c.args.n c.args.found c.requires.0 c.requires.1 c.if-s-eq0.true
 
 pub overflow_shr-block : goal.overflow_shr-block
-overflow_shr-block c = omega (arith, s_to c.args.field c.args.length.0 c.args.radius.0 c.args.n c.args.range.s c.args.range.start c.requires.0)
+overflow_shr-block c = omega (arith, s_to c.args.shell c.args.n c.args.found c.requires.0)
 
 pub shape_count-requires : goal.shape_count-requires
 shape_count-requires c =
-    countable c.args.field c.args.length.0 c.args.radius.0 c.args.n c.args.range.s c.args.range.start c.requires.0 c.if-s-eq0.false
+    countable c.args.shell c.args.n c.args.found c.requires.0 c.if-s-eq0.false
 
 pub room-shapes-requires : goal.room-shapes-requires
 room-shapes-requires c =
-    let can = countable c.args.field c.args.length.0 c.args.radius.0 c.args.n c.args.range.s c.args.range.start c.requires.0 c.if-s-eq0.false in
-    shapes_to c.args.range.s c.args.radius.0 c.shape_count.ensures can.2 can.3
+    let can = countable c.args.shell c.args.n c.args.found c.requires.0 c.if-s-eq0.false in
+    shapes_to c.args.found.s c.args.shell.radius.0 c.shape_count.ensures can.2 can.3
 
 pub nonzero_div-result : goal.nonzero_div-result
 nonzero_div-result c =
-    rw (room_size c.args.range.s c.args.radius.0 c.shape_count.ensures c.args.field c.room-shapes.ensures)
-    (field_from c.args.field c.args.length.0 c.args.radius.0 c.args.n c.args.range.s c.args.range.start c.requires.0)
+    rw (room_size c.args.found.s c.args.shell.radius.0 c.shape_count.ensures c.args.shell.field c.room-shapes.ensures)
+    (field_from c.args.shell c.args.n c.args.found c.requires.0)
 
 pub nonzero_rem-result : goal.nonzero_rem-result
 nonzero_rem-result c =
-    rw (room_size c.args.range.s c.args.radius.0 c.shape_count.ensures c.args.field c.room-shapes.ensures)
-    (field_from c.args.field c.args.length.0 c.args.radius.0 c.args.n c.args.range.s c.args.range.start c.requires.0)
+    rw (room_size c.args.found.s c.args.shell.radius.0 c.shape_count.ensures c.args.shell.field c.room-shapes.ensures)
+    (field_from c.args.shell c.args.n c.args.found c.requires.0)
 
 pub returns : goal.returns
 returns c =
-    components_there c.args.field c.args.length.0 c.args.radius.0 c.args.n c.args.range.s c.args.range.start c.requires.0 c.requires.1
+    components_there c.args.shell c.args.n c.args.found c.requires.0 c.requires.1
     c.room-shapes.result
-    (room_size c.args.range.s c.args.radius.0 c.shape_count.ensures c.args.field c.room-shapes.ensures)
+    (room_size c.args.found.s c.args.shell.radius.0 c.shape_count.ensures c.args.shell.field c.room-shapes.ensures)

@@ -6,14 +6,14 @@ use native.Mathlib.Omega.{arith}
 use Rattle.enumeration.proofs.Shapes.{first_read, last_read, second_read}
 use Rattle.product.proofs.inner.read.first_magnitude.Goals as goal
 
-pub returns-then-s-eq0 : goal.returns-then-s-eq0
-returns-then-s-eq0 c =
-    let last = last_read c.args.radius.0 c.args.shape (rw c.if-s-eq0.true at c.requires.2) in
-    rw c.if-s-eq0.true (sym last.0, sym last.1, le_refl c.args.radius.0)
+pub returns-in-0 : goal.returns-in-0
+returns-in-0 c =
+    let last = last_read c.args.radius.0 c.args.shape (rw c.in-0.is at c.requires.2) in
+    rw c.in-0.is (sym last.0, sym last.1, le_refl c.args.radius.0)
 
-pub returns-then-s-eq1 : goal.returns-then-s-eq1
-returns-then-s-eq1 c =
-    let below = rw c.if-s-eq1.true at c.requires.2 in
+pub returns-in-1 : goal.returns-in-1
+returns-in-1 c =
+    let below = rw c.in-1.is at c.requires.2 in
     let second = second_read c.args.radius.0 c.args.shape below in
-    rw c.if-s-eq1.true
+    rw c.in-1.is
     (omega (arith, second.0), sym second.1, omega (arith, second.0, (first_read 1 c.args.radius.0 c.args.shape below).to_sum))

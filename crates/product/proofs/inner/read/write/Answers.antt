@@ -1,5 +1,4 @@
--- `product::inner::read::write` writes the point: at each turn the coordinates before `at` stand there, and the
--- rest is what is left to write.
+-- `product::inner::read::write` writes the point: at the end all coordinates stand there, and nothing is left to write.
 use native.Mathlib.Omega.{arith}
 use lib.ListN.{length}
 use Rattle.coordinates.proofs.Writing.{write_all}
@@ -14,4 +13,4 @@ returns c =
     write_all (written_from c.args.components (length c.args.out.now)) at.out at.at (written_from q)
     (write_none q.s 0 q.k q.pattern q.shape q.sign)
     (omega arith)
-    at.invariant.3
+    at.invariant.1

@@ -19,7 +19,7 @@ row_total row k = total_selected (selector_of row) (length_of row) k
 pub returns : goal.returns
 returns c k =
     let row = c.args.row.now in
-    let is_field : c.field_of-field.result ≡ field_in (selected_of (selector_of row)) =
-    c.field_of-field.ensures ∙ ap field_in (c.select.ensures ∙ ap selected_of c.selector.ensures) in
+    let is_field : c.field-field.result ≡ field_in (selected_of (selector_of row)) =
+    c.field-field.ensures ∙ ap field_in (c.from.ensures ∙ ap selected_of c.selector.ensures) in
     ap (λ (most : ℕ). ltb most k) (c.largest_radius.ensures ∙ ap₂ largest_radius is_field c.length.ensures)
     ∙ radius_above_largest (field_in (selected_of (selector_of row))) row k c.requires.0 c.requires.1 (row_total row k)
