@@ -9,7 +9,7 @@ function one_line(text) {
 function print_call(text,    name) {
     name = text
     sub(/.*fn /, "", name)
-    sub(/\(.*/, "", name)
+    sub(/[(<].*/, "", name)
     print "call\t" crate "\t" name "\t" one_line(text)
 }
 BEGIN { OFS = "\t" }
