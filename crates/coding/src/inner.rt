@@ -56,7 +56,7 @@ fn code(row: &Row, coefficients: &[f32]) -> Coded
     let magnitudes = &mut room[..coefficients.len()];
     let total = measure(coefficients, magnitudes);
     let number = choose(row, total as usize);
-    let numbering = Numbering::of_row(row, number);
+    let numbering = Numbering::of_number(row, number);
     if numbering.radius.0 == 0 {
         return Coded {
             number,

@@ -60,7 +60,7 @@ fn judge_codeword(mode: Mode, row: &Row, number: usize, n: u64) -> Seen
     ensures { (result.judged ≡ judge_in mode.0 row.now (radius_at row.now number) n)
         × Handed row.now result.judged result.found }
 {
-    let numbering = Numbering::of_row(row, number);
+    let numbering = Numbering::of_number(row, number);
     match numbering.seek(n) {
         Ok(found) => Seen {
             judged: Judged::Sound {

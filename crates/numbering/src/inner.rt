@@ -4,6 +4,7 @@ ghost use Rattle.tables.specs.Usable.{IsUsable};
 
 use counts::{Field, Length, Radius};
 use product::inner::range::{Found, holds, locate};
+use ranges::inner::total;
 use ranges::inner::usable::Shell;
 use rows::inner::row::Row;
 use selectors::inner::Selected;
@@ -33,7 +34,7 @@ impl Numbering {
     ghost use Rattle.numbering.specs.Numbered.{ByProduct, ByMagnitude, IsOfRow, IsShellOf, total_in, index_in, point_in, names_in, Names, IsFound, Seeks};
 
     // The numbering of the shell of a radius, in a row.
-    pub fn of_radius(row: &Row, radius: Radius) -> Numbering
+    pub fn in_row(row: &Row, radius: Radius) -> Numbering
         requires { IsUsable (length_of row.now) radius.0 (shell_total row.now radius.0) }
         ensures { IsOfRow result row.now radius.0 }
     {
@@ -45,12 +46,12 @@ impl Numbering {
     }
 
     // The same of a radius number of the row.
-    pub fn of_row(row: &Row, number: usize) -> Numbering
+    pub fn of_number(row: &Row, number: usize) -> Numbering
         requires { (number < 8)
             × IsUsable (length_of row.now) (radius_at row.now number) (shell_total row.now (radius_at row.now number)) }
         ensures { IsOfRow result row.now (radius_at row.now number) }
     {
-        Numbering::of_radius(row, rows::inner::row::radius(row, number))
+        Numbering::in_row(row, rows::inner::row::radius(row, number))
     }
 
     // The shell, with the field by which its indices are counted.
@@ -112,7 +113,7 @@ impl Numbering {
         let found = locate(shell, n);
         if !holds(shell, n, found) {
             return Err(Missed::Past {
-                total: shell.total(found.start),
+                total: total(shell.field, shell.length, shell.radius, found.start),
             });
         }
         if !product::inner::range::names(shell, n, found) {

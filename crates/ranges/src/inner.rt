@@ -1,7 +1,8 @@
 // The counts that an index by pattern, shape and signs is made of, whatever field each shape has.
 ghost use Rattle.std.specs.Prelude.{◌≡◌, ◌^◌, ◌≤◌, ◌<◌, get_or};
-ghost use Rattle.counts.specs.Counts.{D, S, B};
-ghost use Rattle.counts.specs.Fields.{room_for};
+ghost use Rattle.counts.specs.Counts as counted;
+ghost use Rattle.counts.specs.Counts.{D, S, B, range_size, range_start};
+ghost use Rattle.counts.specs.Fields.{size_of, room_for, field_total};
 ghost use Rattle.counts.specs.Width as widths;
 ghost use Rattle.tables.specs.Largest.{largest_radii, lost_radii, largest_radius};
 
@@ -68,6 +69,13 @@ pub fn sign_count(s: usize) -> u64
     power(s)
 }
 
+// The largest number m of nonzero coordinates, the smaller of l and k.
+pub fn most_nonzero(length: Length, radius: Radius) -> usize
+    ensures { result ≡ counted.most_nonzero length.0 radius.0 }
+{
+    length.0.min(radius.0)
+}
+
 // The pattern count D(s,l), which is stored.
 pub fn pattern_count(s: usize, length: Length) -> u32
     requires { (s ≤ 16) × (length.0 ≤ 16) }
@@ -93,4 +101,22 @@ pub fn room(field: Field, shapes: u32) -> u32
         Field::Exact => shapes,
         Field::Bits => shapes.next_power_of_two(),
     }
+}
+
+// The size of the range for s: D x F x 2^s, where each shape has this field F.
+pub fn range_size(field: Field, s: usize, length: Length, radius: Radius) -> u64
+    requires { (0 < s) × (s ≤ 16) × (length.0 ≤ 16) × (0 < radius.0) × (radius.0 ≤ 32) }
+    ensures { result ≡ range_size (size_of field) s length.0 radius.0 }
+{
+    let shapes = room(field, shape_count(s, radius));
+    pattern_count(s, length) as u64 * shapes as u64 * sign_count(s)
+}
+
+// How many indices there are, from where the last range ends. Radius 0 has no range from 1 on, and the one index; the
+// field and the length are what the contract speaks of.
+pub fn total(field: Field, length: Length, radius: Radius, end: u64) -> u64
+    requires { end ≡ range_start (size_of field) 0 length.0 radius.0 }
+    ensures { result ≡ field_total (size_of field) length.0 radius.0 }
+{
+    if radius.0 == 0 { 1 } else { end }
 }

@@ -22,7 +22,7 @@ fn write_found(row: &Row, radius: usize, n: u64, found: Found, out: &mut [i32])
         × (listed.length out.old ≡ length_of row.now) }
     ensures { out.new ≡ point_named row.now radius n }
 {
-    Numbering::of_radius(row, Radius(radius)).write_point(n, found, out);
+    Numbering::in_row(row, Radius(radius)).write_point(n, found, out);
 }
 
 // The same, where it is still to be sought.
@@ -30,7 +30,7 @@ fn write_sought(row: &Row, radius: usize, n: u64, out: &mut [i32])
     requires { IsRow row.now × NamesPoint row.now radius n × (listed.length out.old ≡ length_of row.now) }
     ensures { out.new ≡ point_named row.now radius n }
 {
-    let numbering = Numbering::of_radius(row, Radius(radius));
+    let numbering = Numbering::in_row(row, Radius(radius));
     numbering.write_point(n, numbering.find(n), out);
 }
 

@@ -8,7 +8,7 @@ ghost use Rattle.product.specs.Components.{IsIndexOf};
 
 use counts::Field;
 use ranges::inner::usable::Shell;
-use ranges::inner::{room, shape_count};
+use ranges::inner::{most_nonzero, range_size, room, shape_count};
 
 // Where an index stands among the others, as a search found it: in the range for s, which starts there.
 #[derive(Clone, Copy)]
@@ -28,15 +28,21 @@ pub fn locate(shell: Shell, n: u64) -> Found
     ensures { (result.s ≡ range_of (size_of shell.field) shell.length.0 shell.radius.0 n)
         × (result.start ≡ range_start (size_of shell.field) result.s shell.length.0 shell.radius.0) }
 {
+    let mut s = most_nonzero(shell.length, shell.radius);
     let mut start = 0;
-    for s in (1..=shell.most_nonzero()).rev() {
-        let end = start + shell.range_size(s);
+    // The loop is to yield both by break: a range has no such end.
+    let found = loop {
+        if s == 0 {
+            break Found { s, start };
+        }
+        let end = start + range_size(shell.field, s, shell.length, shell.radius);
         if n < end {
-            return Found { s, start };
+            break Found { s, start };
         }
         start = end;
-    }
-    Found { s: 0, start }
+        s -= 1;
+    };
+    found
 }
 
 // Whether the index is below the total. Radius 0 has no range from 1 on, and the one index 0.

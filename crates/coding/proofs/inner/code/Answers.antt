@@ -11,11 +11,11 @@ returns-then-numbering-eq0 c =
     let xs = c.args.coefficients.now in
     let is_total = c.measure-total.ensures.0 in
     let chosen = c.choose-number.ensures.0 in
-    let of_row = c.of_row-numbering.ensures in
+    let of_row = c.of_number-numbering.ensures in
     (number_is xs is_total chosen of_row, zero_coded xs is_total chosen of_row c.if-numbering-eq0.true)
 
-pub of_row-numbering-requires : goal.of_row-numbering-requires
-of_row-numbering-requires c =
+pub of_number-numbering-requires : goal.of_number-numbering-requires
+of_number-numbering-requires c =
     let row = c.args.row.now in
     let good = c.requires.0.row_good in
     let below : c.choose-number.result < radii_of row = rw c.choose-number.ensures.0 (number_below row good c.measure-total.result) in
@@ -24,7 +24,7 @@ of_row-numbering-requires c =
 pub codeword-codeword-requires : goal.codeword-codeword-requires
 codeword-codeword-requires c =
     let measured = c.measure-total.ensures in
-    codable c.args.coefficients.now measured.0 c.choose-number.ensures.0 c.of_row-numbering.ensures c.requires.0.row_good c.requires.2 c.requires.1
+    codable c.args.coefficients.now measured.0 c.choose-number.ensures.0 c.of_number-numbering.ensures c.requires.0.row_good c.requires.2 c.requires.1
     c.if-numbering-eq0.false measured.1
 
 pub returns : goal.returns
@@ -32,5 +32,5 @@ returns c =
     let xs = c.args.coefficients.now in
     let is_total = c.measure-total.ensures.0 in
     let chosen = c.choose-number.ensures.0 in
-    let of_row = c.of_row-numbering.ensures in
+    let of_row = c.of_number-numbering.ensures in
     (number_is xs is_total chosen of_row, c.codeword-codeword.ensures ∙ codeword_is xs is_total chosen of_row)

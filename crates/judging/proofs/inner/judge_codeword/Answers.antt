@@ -17,14 +17,14 @@ by_row {m} {row} {k} of_row mode n =
     ap (λ (names : ℕ → Bool). judge_codeword mode names (total_in m) m.radius.0 n) (names_of of_row)
     ∙ ap₂ (λ (total r : ℕ). judge_codeword mode (index_names row k) total r n) (total_of of_row) of_row.is_radius
 
-pub of_row-numbering-requires : goal.of_row-numbering-requires
-of_row-numbering-requires c = (omega (arith, c.requires.0.row_good.radii_to), c.requires.0.row_good.radius_usable c.args.number c.requires.1)
+pub of_number-numbering-requires : goal.of_number-numbering-requires
+of_number-numbering-requires c = (omega (arith, c.requires.0.row_good.radii_to), c.requires.0.row_good.radius_usable c.args.number c.requires.1)
 
 pub judge_past-requires : goal.judge_past-requires
 judge_past-requires c =
     let row = c.args.row.now in
     let k = radius_at row c.args.number in
-    let of_row = c.of_row-numbering.ensures in
+    let of_row = c.of_number-numbering.ensures in
     let sought = rw c.in-Err-Past.field-0-is at c.in-Err-Past.ensures in
     let usable = c.requires.0.row_good.radius_usable c.args.number c.requires.1 in (
       sought.1,
@@ -34,24 +34,24 @@ judge_past-requires c =
 
 pub returns-in-Ok : goal.returns-in-Ok
 returns-in-Ok c =
-    let of_row = c.of_row-numbering.ensures in
-    let m = c.of_row-numbering.result in
+    let of_row = c.of_number-numbering.ensures in
+    let m = c.of_number-numbering.result in
     let sought = c.in-Ok.ensures in
     (codeword_sound c.args.mode.0 (names_in m) (total_in m) m.radius.0 c.args.n sought.0 sought.1 ∙ by_row of_row c.args.mode.0 c.args.n, rw of_row.is_radius (found_of of_row sought.2))
 
 pub returns-in-Err-Empty : goal.returns-in-Err-Empty
 returns-in-Err-Empty c =
-    let m = c.of_row-numbering.result in
+    let m = c.of_number-numbering.result in
     let sought = rw c.in-Err-Empty.field-0-is at c.in-Err-Empty.ensures in
     seen_as c.args.row.now c.unseen.result c.unseen.ensures tt
-    (codeword_empty c.args.mode.0 (names_in m) (total_in m) m.radius.0 c.args.n sought.0 sought.1 ∙ by_row c.of_row-numbering.ensures c.args.mode.0 c.args.n)
+    (codeword_empty c.args.mode.0 (names_in m) (total_in m) m.radius.0 c.args.n sought.0 sought.1 ∙ by_row c.of_number-numbering.ensures c.args.mode.0 c.args.n)
 
 pub returns-in-Err-Past : goal.returns-in-Err-Past
 returns-in-Err-Past c =
-    let m = c.of_row-numbering.result in
+    let m = c.of_number-numbering.result in
     let sought = rw c.in-Err-Past.field-0-is at c.in-Err-Past.ensures in
     let past = c.judge_past.ensures in
     seen_as c.args.row.now c.unseen-in-Err-Past.result c.unseen-in-Err-Past.ensures past.1
     (past.0
     ∙ ap (λ (total : ℕ). judge_codeword c.args.mode.0 (names_in m) total m.radius.0 c.args.n) sought.1
-    ∙ by_row c.of_row-numbering.ensures c.args.mode.0 c.args.n)
+    ∙ by_row c.of_number-numbering.ensures c.args.mode.0 c.args.n)

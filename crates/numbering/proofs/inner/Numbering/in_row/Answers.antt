@@ -2,7 +2,7 @@
 use mathlib.Core.Path.{refl, ap, ◌∙◌}
 use Rattle.selectors.specs.Selected.{selected_of}
 use Rattle.numbering.proofs.OfRow.{row_usable}
-use Rattle.numbering.proofs.inner.Numbering.of_radius.Goals as goal
+use Rattle.numbering.proofs.inner.Numbering.in_row.Goals as goal
 
 pub invariant_of-result : goal.invariant_of-result
 invariant_of-result c =
