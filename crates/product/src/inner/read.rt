@@ -23,20 +23,23 @@ struct First {
 }
 
 // The first of s+1 magnitudes that sum to the radius, of the shape of this number, where there are others. S(s,k-1)
-// shapes begin with 1, and as many as S(s,k-i) with i.
+// shapes begin with 1, and as many as S(s,k-i) with i. A loop with one count in it was tried, and slower.
 fn search_magnitude(s: usize, radius: Radius, shape: u32) -> First
     requires { (0 < s) × (s < 16) × (radius.0 ≤ 32) × (shape < S (suc s) radius.0) }
     ensures { IsFirstOf s radius.0 shape result.magnitude result.left }
 {
+    let sum = radius.0;
+    let mut k = sum - 1;
     let mut left = shape;
-    let mut magnitude = 1;
-    loop {
-        let begin = shape_count(s, Radius(radius.0 - magnitude));
-        if left < begin {
-            return First { magnitude, left };
-        }
+    let mut begin = shape_count(s, Radius(k));
+    while begin <= left {
         left -= begin;
-        magnitude += 1;
+        k -= 1;
+        begin = shape_count(s, Radius(k));
+    }
+    First {
+        magnitude: sum - k,
+        left,
     }
 }
 
