@@ -32,7 +32,7 @@ pub fn table<'a>(mut numbers: Numbers, room: &'a mut [u8]) -> Option<&'a mut [u8
     let mut row = [0u8; 16];
     numbers.fill(&mut row, low_byte);
     repeat(table, &row);
-    change(table, numbers.left());
+    change(table, numbers.rest);
     Some(table)
 }
 

@@ -1,20 +1,21 @@
 // The numbers of a line, taken one after the other. Where there are no more, 0 is taken.
+ghost use Rattle.std.specs.Prelude.{◌≡◌, ◌%◌, ◌^◌, drop, slice_index};
+
 #[derive(Clone, Copy)]
 pub struct Numbers<'a> {
-    rest: &'a [u64],
+    pub rest: &'a [u64],
 }
 
 impl<'a> Numbers<'a> {
-    pub fn of(line: &'a [u64]) -> Numbers<'a> {
+    pub fn of(line: &'a [u64]) -> Numbers<'a>
+        ensures { result.rest.now ≡ line.now }
+    {
         Numbers { rest: line }
     }
 
-    // All that are left.
-    pub fn left(self) -> &'a [u64] {
-        self.rest
-    }
-
-    pub fn next(&mut self) -> u64 {
+    pub fn next(&mut self) -> u64
+        ensures { (result ≡ slice_index self.old.rest.now 0) × (self.new.rest.now ≡ drop 1 self.old.rest.now) }
+    {
         match self.rest.split_first() {
             Some((n, rest)) => {
                 self.rest = rest;
@@ -49,11 +50,15 @@ impl<'a> Numbers<'a> {
 }
 
 // The low 8 bits as a byte.
-pub fn low_byte(n: u64) -> u8 {
+pub fn low_byte(n: u64) -> u8
+    ensures { result ≡ n % 256 }
+{
     (n % 256) as u8
 }
 
 // The low 32 bits as a word.
-pub fn low_word(n: u64) -> u32 {
+pub fn low_word(n: u64) -> u32
+    ensures { result ≡ n % 2 ^ 32 }
+{
     (n % 4294967296) as u32
 }

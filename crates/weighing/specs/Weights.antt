@@ -44,8 +44,8 @@ extended behind i negative left =
 abbrev pub in_front : Weight → ℤ → ℕ → Weight
 in_front behind c left = cond (is_nonzero c) (extended behind (nat_abs c) (is_negative c) left) behind
 
--- what is asked for a nonzero coordinate: no nonzero coordinate has no weight, and within lengths to 16 and radii to 32 none of the
--- sums is large
+-- what is asked for a nonzero coordinate: no nonzero coordinate has no weight, and within lengths to 16 and radii to 32
+-- none of the sums is large
 pub record Room (behind : Weight) (i : ℕ) (negative : Bool) (left : ℕ) : Type 0 where
   pub none_behind : behind.s ≡ 0 → behind ≡ nothing
   pub some_behind : (behind.s ≡ 0 → ⊥) → 0 < behind.k

@@ -1,4 +1,5 @@
--- The loop goes down from m: what is summed is the start of the range for i, and i stays from the smaller of s and m on.
+-- The loop goes down from m: what is summed is the start of the range for i, and i stays from the smaller of s and m
+-- on.
 use Prim.Native.Nat.{◌≤◌, min}
 use mathlib.Core.Path.{◌≡◌}
 use Rattle.counts.specs.Counts.{most_nonzero, range_start}
