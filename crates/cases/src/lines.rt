@@ -14,6 +14,7 @@ pub fn run(rt: &impl Print, text: &[u8], room: &mut [u8]) {
 // Writes and runs a line; the books and the layout that are meant after it.
 fn line(rt: &impl Print, shelf: Shelf, line: &[u8], room: &mut [u8]) -> Shelf {
     output::words(rt, line);
+    // A room of a fixed size: the program takes no memory.
     let mut numbers = [0; 128];
     let n = input::read_numbers(line, &mut numbers);
     let next = case(rt, shelf, line, &numbers[..n], room);

@@ -17,6 +17,7 @@ mod vectors;
 use script::input::read_full;
 
 fn main(rt: HostRuntime) {
+    // Rooms of a fixed size: the program takes no memory.
     let mut text = [0u8; 131072];
     let n = read_full(&mut rt.stdin(), &mut text);
     let mut room = [0u8; 4096];

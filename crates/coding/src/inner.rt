@@ -39,6 +39,7 @@ fn codeword(numbering: Numbering, total: u32, coefficients: &[f32], magnitudes: 
     ensures { result ≡ index_in numbering (point_of numbering.radius.0 coefficients.now) }
 {
     let n = coefficients.len();
+    // Rooms of a fixed size, of which the first n are used: no call takes memory.
     let mut rests = [0; 16];
     let mut point = [0; 16];
     share(numbering.radius.0, total, magnitudes, &mut rests[..n]);
@@ -52,6 +53,7 @@ fn code(row: &Row, coefficients: &[f32]) -> Coded
     ensures { (result.number ≡ radius_number_for row.now coefficients.now)
         × (result.codeword ≡ codeword_for row.now coefficients.now) }
 {
+    // A room of a fixed size: no call takes memory.
     let mut room = [0; 16];
     let magnitudes = &mut room[..coefficients.len()];
     let total = measure(coefficients, magnitudes);

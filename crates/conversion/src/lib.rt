@@ -1,5 +1,6 @@
 // The calls that convert a page (docs/RULES.md, "States first"): one that was kept cell by cell into one that is kept
-// states first, and back. Every cell is copied, and no state is judged.
+// states first, and back. Every cell is copied, and no state is judged. They are two calls, as docs/CALLS.md promises
+// them, over one function.
 #![tactic(auto)]
 
 mod inner;

@@ -21,6 +21,7 @@ use std::rt::Files;
 fn list_page(rt: &(impl Files + Print + Eprint), table: &[u8], places: usize) -> Result<(), End>
     requires { places ≤ 4096 }
 {
+    // A room of a fixed size, here and below: the program takes no memory.
     let mut room = [0u8; BOOK_ROOM];
     let size = page_length(places);
     let page = &mut room[..size];

@@ -20,6 +20,7 @@ use std::rt::Files;
 fn send_page(rt: &(impl Files + Eprint), table: &[u8], places: usize) -> Result<(), Refusal>
     requires { places ≤ 4096 }
 {
+    // Rooms of a fixed size, here and below: the program takes no memory.
     let mut room = [0u8; 262148];
     let size = read_file(rt, "coefficients.bin", &mut room);
     let mut out = [0u8; 32768];

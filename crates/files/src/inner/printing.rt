@@ -33,6 +33,7 @@ pub fn print_end(rt: &(impl Print + Eprint), end: End) {
 
 // Prints a refusal. Where it cannot be written, standard error tells so.
 pub fn print_refused(rt: &(impl Print + Eprint), refusal: Refusal) {
+    // A room of a fixed size: the programs take no memory.
     let mut out = [0u8; 256];
     if let Ok(size) = refused_line(refusal, &mut out) {
         if let Err(error) = rt.write_all(&out[..size]) {

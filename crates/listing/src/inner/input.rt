@@ -28,6 +28,7 @@ pub fn take_records(rt: &(impl Files + Eprint), table: &[u8], page: &mut [u8]) -
 fn take_file<F: Read>(rt: &impl Eprint, file: &mut F, table: &[u8], page: &mut [u8]) -> u64
     ensures { Took table.now page.old page.new result }
 {
+    // A room of a fixed size: the program takes no memory, however large the file is.
     let mut block = [0u8; 65536];
     let mut refused: u64 = 0;
     for _turn in 0..=MOST_TURNS {

@@ -20,6 +20,7 @@ pub fn print_page(
 
 // Prints the lines of the places.
 fn print_lines(rt: &impl Print, table: &[u8], page: &[u8], places: usize) -> Result<(), End> {
+    // A room of a fixed size, here and below: the program takes no memory.
     let mut out = [0u8; 65536];
     let mut from = 0;
     // Each call tells from which place to go on, so the places are not counted one by one.

@@ -74,6 +74,7 @@ fn value_of(row: &Row, seen: Seen, coordinate: usize) -> f32
     ensures { result ≡ value_in row.now (shown row.now seen.judged) coordinate }
 {
     let l = length(row).0;
+    // A room of a fixed size: no call takes memory.
     let mut point = [0i32; 16];
     show(row, seen, &mut point[..l]);
     let c = point[coordinate];

@@ -97,6 +97,7 @@ fn write_line(mode: Mode, row: &Row, page: &[u8], spot: Spot, at: usize, out: &m
 {
     let l = length(row).0;
     let seen = judge_at(mode, row, page, spot);
+    // A room of a fixed size: no call takes memory.
     let mut point = [0i32; 16];
     write_seen(row, spot.named.place, seen, &mut point[..l], at, out)
 }

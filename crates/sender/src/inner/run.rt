@@ -40,6 +40,7 @@ pub fn send_bytes(table: &[u8], bytes: &[u8], records: &mut [u8]) -> Result<(), 
     ensures { (send_meaning result ≡ send_says table.now one_book only_book (run_of bytes.now) records.old)
         × (records.new ≡ send_leaves table.now one_book only_book (run_of bytes.now) records.old) }
 {
+    // A room of a fixed size: the program takes no memory.
     let mut run = [0.0f32; 65537];
     let count = run_of(bytes, &mut run);
     send(
