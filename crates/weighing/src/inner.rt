@@ -1,6 +1,6 @@
 // The index of a point, in one pass from its last coordinate: the weight of what stands from a coordinate on is
 // made of that of what stands after it.
-ghost use Rattle.std.specs.Prelude.{◌≡◌, suc, ◌+◌, ◌-◌, ◌*◌, ◌≤◌, ◌<◌, true, nat_abs};
+ghost use Rattle.std.specs.Prelude.{◌≡◌, ◌+◌, ◌-◌, ◌*◌, ◌≤◌, ◌<◌, true, nat_abs};
 ghost use Rattle.std.proofs.Math.ListN as listed;
 ghost use Rattle.counts.specs.Counts.{B};
 ghost use Rattle.counts.specs.Fields.{size_of};

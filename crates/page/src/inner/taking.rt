@@ -1,5 +1,5 @@
 // Records taken into a page.
-ghost use Rattle.std.specs.Prelude.{[], ◌∷◌, ◌≡◌, ◌+◌, ◌/◌, ◌≤◌, ◌<◌, min};
+ghost use Rattle.std.specs.Prelude.{[], ◌∷◌, ◌≡◌, ◌+◌, ◌/◌, ◌≤◌, ◌<◌};
 ghost use Rattle.answers.specs.Checks.{first_of, leaves};
 ghost use Rattle.rules.specs.Taking.{take_rest, take_into, refusals, take_leaves, collected};
 ghost use Rattle.tables.specs.Table.{places_in};

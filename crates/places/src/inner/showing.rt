@@ -1,6 +1,6 @@
 // What a place shows: the number of its answer, the reason or the distance, and the point of a sound or mended one or
 // zeros for the others.
-ghost use Rattle.std.specs.Prelude.{◌≡◌, ◌<◌, pos, replicate};
+ghost use Rattle.std.specs.Prelude.{◌≡◌, ◌<◌};
 ghost use Rattle.std.proofs.Math.ListN as listed;
 ghost use Rattle.judging.specs.Seen.{Handed};
 ghost use Rattle.numbering.specs.Numbered.{FoundIn};
