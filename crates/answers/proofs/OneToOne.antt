@@ -1,5 +1,5 @@
 -- Answers that say the same are the same: what was said is read back, a refusal by `refusal_of` and any call's
--- answer by `answer_of`. A refusal begins with a number above 0, and an answer with 0, so neither is taken for the
+-- answer by `result_of`. A refusal begins with a number above 0, and an answer with 0, so neither is taken for the
 -- other.
 use Prim.Native.Nat.{ℕ, zero, suc, ◌≤◌}
 use mathlib.Core.Path.{◌≡◌, refl, sym, ap, ◌∙◌}

@@ -30,9 +30,9 @@ pub enum Refusal {
     UnusableCoefficient { coordinate: usize },
     // 11 as send gives it, with the lowest place at fault, and its first coordinate at fault
     UnusableCoefficientAt { place: usize, coordinate: usize },
-    // 12: state byte above 2, or a held record of another place or row, at the place that the call looks at
+    // 12: state byte above 2, or a held record of another book, place or row, at the place that the call looks at
     BadCell,
-    // 12 as the tally gives it, with the lowest such place
+    // 12 as the tally and lines give it, with the lowest such place
     BadCellAt { place: usize },
     // 13: coordinate number l or more
     NoSuchCoordinate,

@@ -6,7 +6,6 @@ ghost use Rattle.judging.specs.Seen.{Handed};
 ghost use Rattle.numbering.specs.Numbered.{FoundIn};
 ghost use Rattle.rules.specs.Judging.{answer_number, reason_number, reason_or_distance, shown, point_named, NamesPoint, Shows};
 ghost use Rattle.tables.specs.Row.{length_of, IsRow};
-ghost use Rattle.wording.specs.Kinds.{kind_number};
 
 use counts::Radius;
 use judging::inner::Seen;
@@ -14,7 +13,6 @@ use numbering::inner::Numbering;
 use product::inner::range::Found;
 use rows::inner::row::Row;
 use rules::{Judged, Reason};
-use wording::AnswerKind;
 
 // The point of an index in a row, by where it stands.
 fn write_found(row: &Row, radius: usize, n: u64, found: Found, out: &mut [i32])
@@ -47,24 +45,17 @@ pub fn show(row: &Row, seen: Seen, out: &mut [i32])
     }
 }
 
-// The kind of an answer.
-pub fn answer_kind(judged: Judged) -> AnswerKind
-    ensures { kind_number result ≡ answer_number judged }
-{
-    match judged {
-        Judged::Sound { .. } => AnswerKind::Sound,
-        Judged::Mended { .. } => AnswerKind::Mended,
-        Judged::Missing => AnswerKind::Missing,
-        Judged::Contested => AnswerKind::Contested,
-        Judged::Unreadable(_) => AnswerKind::Unreadable,
-    }
-}
-
-// Its number in the order of the counts.
+// The number of an answer in the order of the counts.
 pub fn answer_number(judged: Judged) -> usize
     ensures { (result ≡ answer_number judged) × (result < 5) }
 {
-    answer_kind(judged) as usize
+    match judged {
+        Judged::Sound { .. } => 0,
+        Judged::Mended { .. } => 1,
+        Judged::Missing => 2,
+        Judged::Contested => 3,
+        Judged::Unreadable(_) => 4,
+    }
 }
 
 // The number of a reason.

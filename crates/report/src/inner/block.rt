@@ -22,7 +22,7 @@ use judging::inner::Seen;
 use layout::Layout;
 use pairing::inner::walking::{walk_from, walked};
 use places::inner::looking::judge_at;
-use places::inner::showing::{answer_kind, reason_or_distance, show};
+use places::inner::showing::{answer_number, reason_or_distance, show};
 use records::inner::Named;
 use rows::inner::row::{Row, length, row_at};
 use rules::Mode;
@@ -81,7 +81,7 @@ fn write_seen(
     let judged = seen.judged;
     write_place_line(
         place,
-        answer_kind(judged),
+        answer_number(judged),
         reason_or_distance(judged),
         point,
         at,

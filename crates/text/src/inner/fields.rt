@@ -2,11 +2,9 @@
 ghost use Rattle.std.specs.Prelude.{◌*◌, ◌+◌, ◌≤◌, ◌∷◌, [], ◌++◌, map, length};
 ghost use Rattle.buffers.specs.Written.{Wrote};
 ghost use Rattle.text.specs.Line.{HasRoom, Writes};
-ghost use Rattle.wording.specs.Kinds.{kind_number};
 ghost use Rattle.wording.specs.Text.{ascii, decimal, integer, spaced, word};
 
 use coordinates::inner::magnitude;
-use wording::AnswerKind;
 
 // The decimal digits of a number from `at` on, those of the tenth and the last; where they end. It calls itself, and
 // with a line passed on from call to call it is slower.
@@ -84,18 +82,18 @@ impl Line<'_> {
         self.end = end;
     }
 
-    // A space and the word of an answer.
-    pub fn write_word(&mut self, kind: AnswerKind)
+    // A space and the word of an answer, by its number.
+    pub fn write_word(&mut self, answer: usize)
         requires { HasRoom self.old 11 }
-        ensures { Writes self.old self.new (ascii " " ++ word (kind_number kind)) 11 }
+        ensures { Writes self.old self.new (ascii " " ++ word answer) 11 }
     {
         self.write_byte(b' ');
-        match kind {
-            AnswerKind::Sound => self.write_text(b"sound"),
-            AnswerKind::Mended => self.write_text(b"mended"),
-            AnswerKind::Missing => self.write_text(b"missing"),
-            AnswerKind::Contested => self.write_text(b"contested"),
-            AnswerKind::Unreadable => self.write_text(b"unreadable"),
+        match answer {
+            0 => self.write_text(b"sound"),
+            1 => self.write_text(b"mended"),
+            2 => self.write_text(b"missing"),
+            3 => self.write_text(b"contested"),
+            _ => self.write_text(b"unreadable"),
         }
     }
 

@@ -2,28 +2,26 @@
 // its contract says: `Wrote`.
 ghost use Rattle.std.specs.Prelude.{◌+◌, ◌≤◌, map, length};
 ghost use Rattle.buffers.specs.Written.{Wrote};
-ghost use Rattle.wording.specs.Kinds.{kind_number};
 ghost use Rattle.wording.specs.Text.{decimal, line, place_text, last_text, refused_text};
 
 use crate::inner::fields::Line;
-use wording::AnswerKind;
 
-// The line of a place: its number, the kind of its answer, a third number that is the reason or the distance, and at
-// most 16 coordinates.
+// The line of a place: its number, the number of its answer, a third number that is the reason or the distance, and at
+// most 16 coordinates. The answer is a number and no enum: what is promised here is promised of any number.
 pub fn write_place_line(
     place: usize,
-    kind: AnswerKind,
+    answer: usize,
     third: u64,
     coordinates: &[i32],
     at: usize,
     out: &mut [u8],
 ) -> usize
     requires { (length coordinates.now ≤ 16) × (at + 256 ≤ length out.old) }
-    ensures { Wrote out.old at (place_text place (kind_number kind) third coordinates.now) 256 result out.new }
+    ensures { Wrote out.old at (place_text place answer third coordinates.now) 256 result out.new }
 {
     let mut line = Line { out, end: at };
     line.write_decimal(place as u64);
-    line.write_word(kind);
+    line.write_word(answer);
     line.write_number(third);
     line.write_integers(coordinates);
     line.write_byte(b'\n');

@@ -1,6 +1,5 @@
 -- The line of a place, field by field.
 use Rattle.std.proofs.Common.{[], ◌∷◌, map, rules, arith}
-use Rattle.wording.specs.Kinds.{kind_number}
 use Rattle.wording.specs.Text.{decimal, integer, word}
 use Rattle.text.proofs.Writing.{begun, more, one_more_lem, ended}
 use Rattle.text.proofs.inner.lines.write_place_line.Goals as goal
@@ -8,7 +7,7 @@ use Rattle.text.proofs.inner.lines.write_place_line.Goals as goal
 pub returns : goal.returns
 returns c =
     let place = decimal c.args.place in
-    let answer = word (kind_number c.args.kind) in
+    let answer = word c.args.answer in
     let third = decimal c.args.third in
     let coordinates = map integer c.args.coordinates.now in
     let with_answer = one_more_lem place [] (begun c.write_decimal.ensures) answer c.write_word.ensures in
