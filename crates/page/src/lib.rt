@@ -1,7 +1,7 @@
 // The calls of the page (docs/RULES.md, "The page" and "Books"): take a record, collect a run of records, read a place,
 // one coefficient, and the tally. All are given the number of books and the layout of the page; the last three are
-// given a mode and a book, too. What they are made of stands in `inner`; what they are to say, in `rules`. The arguments
-// stand one by one, as docs/CALLS.md promises them to whoever calls.
+// given a mode and a book, too. The arguments stand one by one, as docs/CALLS.md promises them to whoever calls. What
+// the calls are made of stands in `inner`; what they are to say, in `rules`.
 #![tactic(auto)]
 
 pub mod inner;
