@@ -38,6 +38,5 @@ is_antt && text ~ /(^|[ (,;=])\?/ { tell("a hole in a proof") }
 is_rattle && text ~ /extern "C" *(\{|$)/ { tell("a foreign function with a contract that nothing proves") }
 is_rattle && text ~ /^ *(pub )?(extern "C" )?fn / { is_call = text ~ /^ *pub / && FILENAME !~ /\/inner(\/|\.rt$)/ }
 is_rattle && text ~ /^\{/ { is_call = 0 }
-# That a closure may be called is asked of whoever passes one.
-is_rattle && is_call && text ~ /requires \{/ && text !~ /requires \{ F\.IsAlwaysCallable [a-z]+ \}/ { tell("a call that asks something of its caller") }
+is_rattle && is_call && text ~ /requires \{/ { tell("a call that asks something of its caller") }
 END { finish(lines) }

@@ -1,17 +1,18 @@
 // The cases of the call check, and of the rows of places. A table is given by its size in bytes, the 16 bytes of
 // the row that it has again and again, and then changes, each a position and what stands there.
-use crate::numbers::{Numbers, low_byte};
+use crate::inner::numbers::{Numbers, low_byte};
 use pairing::inner::survey::survey;
 use rows::inner::row;
 use rows::inner::row::{Row, row_at};
+use script::inner::tell;
 use script::input::number;
 use script::output;
 
 // table, and then the table: its places, by the call check.
 pub fn check(rt: &impl Print, numbers: &[u64], room: &mut [u8]) {
     if let Some(table) = table(Numbers::of(numbers), room) {
-        output::answered(rt, pairing::check(table), |places| {
-            output::accepted(rt, &[places as u64])
+        tell(rt, pairing::check(table), |places| {
+            output::answered(rt, places as u64)
         });
     }
 }

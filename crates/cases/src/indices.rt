@@ -1,7 +1,8 @@
 // The cases of the calls index and point. A buffer is lent full of nines, so that a refused call is seen to leave it.
-use crate::numbers::low_word;
+use crate::inner::numbers::low_word;
 use counts::{Length, Radius};
 use enumeration::Selector;
+use script::inner::tell;
 use script::input::number;
 use script::output;
 
@@ -18,7 +19,7 @@ pub fn index(rt: &impl Print, numbers: &[u64]) {
         *c = coordinate(*n);
     }
     let answer = points::index(selector(numbers), length(numbers), radius(numbers), x);
-    output::answered(rt, answer, |n| output::accepted(rt, &[n]));
+    tell(rt, answer, |n| output::answered(rt, n));
 }
 
 // What both calls are given first.
@@ -47,7 +48,7 @@ pub fn point(rt: &impl Print, numbers: &[u64]) {
     };
     let n = number(numbers, 3);
     let answer = points::point(selector(numbers), length(numbers), radius(numbers), n, out);
-    output::answered(rt, answer, |()| output::accepted(rt, &[]));
+    tell(rt, answer, |()| output::accepted(rt, &[]));
     output::colon(rt);
     output::coordinates(rt, out);
 }

@@ -8,8 +8,8 @@
 mod books;
 mod checks;
 mod indices;
+mod inner;
 mod lines;
-mod numbers;
 mod pages;
 mod shells;
 mod vectors;

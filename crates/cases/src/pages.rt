@@ -3,12 +3,13 @@
 // those that were told before. A buffer for a point is lent full of nines.
 use crate::books::Shelf;
 use crate::checks;
-use crate::numbers::{Numbers, low_byte};
+use crate::inner::numbers::{Numbers, low_byte};
 use conversion::{to_cell_by_cell, to_states_first};
 use floats::inner::{is_negative, is_unusable, nearest_whole};
 use layout::Layout;
 use page::{Answer, Counts};
 use rules::{Mode, Reason};
+use script::inner::tell;
 use script::output;
 
 // What a line gives beside the page and what arrives.
@@ -96,7 +97,7 @@ pub fn read(rt: &impl Print, shelf: Shelf, numbers: &[u64], room: &mut [u8]) {
             case.first,
             out,
         );
-        output::answered(rt, answer, |shown| found(rt, shown, |()| ()));
+        tell(rt, answer, |shown| found(rt, shown, |()| ()));
         output::colon(rt);
         output::coordinates(rt, out);
     });
@@ -115,7 +116,7 @@ pub fn coefficient(rt: &impl Print, shelf: Shelf, numbers: &[u64], room: &mut [u
             case.first,
             case.second,
         );
-        output::answered(rt, answer, |shown| {
+        tell(rt, answer, |shown| {
             found(rt, shown, |value| scaled(rt, value))
         });
     });
@@ -132,7 +133,7 @@ pub fn tally(rt: &impl Print, shelf: Shelf, numbers: &[u64], room: &mut [u8]) {
             shelf.layout,
             page,
         );
-        output::answered(rt, answer, |counts| counted(rt, counts));
+        tell(rt, answer, |counts| counted(rt, counts));
     });
 }
 

@@ -1,5 +1,6 @@
 // The cases of the call count, and of the width.
 use counts::{Length, Radius};
+use script::inner::tell;
 use script::input::number;
 use script::output;
 
@@ -7,9 +8,8 @@ use script::output;
 pub fn count(rt: &impl Print, numbers: &[u64]) {
     let length = Length(number(numbers, 0) as usize);
     let radius = Radius(number(numbers, 1) as usize);
-    output::answered(rt, shell::count(length, radius), |n| {
-        output::accepted(rt, &[n])
-    });
+    let answer = shell::count(length, radius);
+    tell(rt, answer, |n| output::answered(rt, n));
 }
 
 // width N: the width of this total.

@@ -3,7 +3,7 @@
 // is seen to leave it.
 use crate::books::Shelf;
 use crate::checks;
-use crate::numbers::{Numbers, low_word};
+use crate::inner::numbers::{Numbers, low_word};
 use answers::Refusal;
 use floats::inner::{from_pattern, is_unusable, nearest_whole};
 use script::input::number;
@@ -20,7 +20,7 @@ pub fn nearest(rt: &impl Print, numbers: &[u64]) {
     if is_unusable(x) {
         output::refused(rt, Refusal::UnusableCoefficient { coordinate: 0 });
     } else {
-        output::accepted(rt, &[nearest_whole(x) as u64]);
+        output::answered(rt, nearest_whole(x) as u64);
     }
 }
 

@@ -1,5 +1,6 @@
 // What the cases write, to standard output: bytes, and numbers behind what they are put with. What cannot be written
 // is let go.
+use crate::inner::tell;
 use answers::Refusal;
 
 pub fn words(rt: &impl Print, text: &[u8]) {
@@ -54,17 +55,13 @@ pub fn coordinates(rt: &impl Print, vector: &[i32]) {
     }
 }
 
-// What a call answers: what is told of its value, or a refusal.
-pub fn answered<T: Drop, F: FnOnce(T)>(rt: &impl Print, answer: Result<T, Refusal>, told: F)
-    requires { F.IsAlwaysCallable told }
-{
-    match answer {
-        Ok(value) => told(value),
-        Err(refusal) => refused(rt, refusal),
-    }
+// An answer of one number.
+pub fn answered(rt: &impl Print, n: u64) {
+    said(rt, 0);
+    next(rt, n);
 }
 
-// What a call says that isn't refused: 0, and the numbers of its answer.
+// An answer of no number, or of several: 0, and the numbers.
 pub fn accepted(rt: &impl Print, answer: &[u64]) {
     said(rt, 0);
     numbers(rt, answer);
@@ -72,7 +69,7 @@ pub fn accepted(rt: &impl Print, answer: &[u64]) {
 
 // What a call says that writes bytes, and what these are then.
 pub fn left(rt: &impl Print, answer: Result<(), Refusal>, bytes: &[u8]) {
-    answered(rt, answer, |()| accepted(rt, &[]));
+    tell(rt, answer, |()| accepted(rt, &[]));
     colon(rt);
     numbers(rt, bytes);
 }

@@ -1,5 +1,6 @@
 // The numbers of a line, taken one after the other. Where there are no more, 0 is taken.
-ghost use Rattle.std.specs.Prelude.{◌≡◌, ◌%◌, ◌^◌, drop, slice_index};
+ghost use Rattle.std.specs.Prelude.{◌≡◌, ◌%◌, ◌^◌, ◌<◌, drop, length, slice_index, MatchOption};
+ghost use Rattle.cases.specs.Made.{AreMade, AreSized};
 
 #[derive(Clone, Copy)]
 pub struct Numbers<'a> {
@@ -28,6 +29,8 @@ impl<'a> Numbers<'a> {
     // Makes each thing of a number.
     pub fn fill<T: Copy, F: Fn(u64) -> T>(&mut self, things: &mut [T], made: F)
         requires { F.IsAlwaysCallable made }
+        ensures each { AreMade (F.post made) self.old.rest.now things.new }
+        ensures left { self.new.rest.now ≡ drop (length things.new) self.old.rest.now }
     {
         for thing in things.iter_mut() {
             *thing = made(self.next());
@@ -41,6 +44,9 @@ impl<'a> Numbers<'a> {
         made: F,
     ) -> Option<&'b mut [T]>
         requires { F.IsAlwaysCallable made }
+        ensures { let size = slice_index self.old.rest.now 0 in let numbers = drop 1 self.old.rest.now in
+            MatchOption result ((length room.old < size) × (self.new.rest.now ≡ numbers))
+            (λ things. AreSized (F.post made) (length room.old) size numbers things.now self.new.rest.now) }
     {
         let size = self.next() as usize;
         let things = room.get_mut(..size)?;
