@@ -1,8 +1,8 @@
 // A run of coefficients for all places of a book, and the way through it, place by place.
-ghost use Rattle.std.specs.Prelude.{◌≡◌, ◌+◌, ◌<◌};
+ghost use Rattle.std.specs.Prelude.{◌≡◌, ◌<◌};
 ghost use Rattle.tables.specs.Table.{row_of, row_for};
 ghost use Rattle.runs.specs.Run.{vector_for};
-ghost use Rattle.runs.specs.Way.{Reached};
+ghost use Rattle.runs.specs.Way.{Reached, Passed};
 ghost use Rattle.sending.specs.Bounds.{Measured};
 
 use crate::inner::run::vector_at;
@@ -48,7 +48,7 @@ impl<'a> Run<'a> {
     // The place that the way has reached; it goes on to the next.
     pub fn next(&self, way: &mut Way, place: usize) -> Stop<'a>
         requires { Reached self.now.table.now way.old.walk.row way.old.walk.end way.old.from place × (place < self.now.places) }
-        ensures goes_on { Reached self.now.table.now way.new.walk.row way.new.walk.end way.new.from (place + 1) }
+        ensures goes_on { Passed self.now.table.now way.new.walk.row way.new.walk.end way.new.from place }
         ensures its_row { (result.number ≡ row_of self.now.table.now place) × (result.row.now ≡ row_for self.now.table.now place) }
         ensures its_vector { result.vector.now ≡ vector_for self.now.table.now self.now.coefficients.now place }
     {

@@ -4,6 +4,7 @@ use Rattle.std.proofs.Common.{rules, length, sym, ap, ◌∙◌}
 use native.Mathlib.Omega.{arith}
 use Rattle.runs.proofs.Judging.{none_left, usable_says, place_11, place_passes}
 use Rattle.runs.proofs.Positions.{vector_length}
+use Rattle.runs.proofs.Way.{goes_on}
 use Rattle.sending.proofs.Measured.{measured, inside}
 use Rattle.sending.proofs.inner.way.Run.check_run.Goals as goal
 
@@ -29,7 +30,7 @@ loop-place-preserved c =
     let i = c.loop-place in
     let h = inside run i.place (search rules) in
     let vector = c.next.ensures.its_vector in (
-      c.next.ensures.goes_on,
+      goes_on c.next.ensures.goes_on,
       place_passes run.table.now run.coefficients.now long h vector c.in_default.ensures i.invariant.1
           (omega (arith, ap length vector, vector_length run.table.now run.coefficients.now long i.place h)),
     )

@@ -1,9 +1,9 @@
--- `sending::inner::way::Run::next` tells of the place that was reached, and reaches the next.
+-- `sending::inner::way::Run::next` tells of the place that was reached, and passes it.
 use Rattle.std.proofs.Common.{ap, ◌∙◌}
 use native.Mathlib.Omega.{arith}
 use Rattle.tables.proofs.Walking.{its_row}
 use Rattle.tables.specs.Table.{row_at}
-use Rattle.runs.proofs.Way.{part_in, its_vector, goes_on, next_fits}
+use Rattle.runs.proofs.Way.{part_in, its_vector, passed, next_fits}
 use Rattle.sending.proofs.Measured.{measured, inside}
 use Rattle.sending.proofs.inner.way.Run.next.Goals as goal
 
@@ -21,7 +21,7 @@ overflow_add-way c =
 pub returns-clause-goes_on : goal.returns-clause-goes_on
 returns-clause-goes_on c =
     let h = inside c.args.self.now c.args.place c.requires.1 in
-    goes_on c.requires.0 h c.walked-way.ensures c.row_at-row.ensures c.length-l.ensures
+    passed c.requires.0 h c.walked-way.ensures c.row_at-row.ensures c.length-l.ensures
 
 pub returns-clause-its_row : goal.returns-clause-its_row
 returns-clause-its_row c =

@@ -6,6 +6,7 @@ use Rattle.tables.specs.Table.{places_in, row_of}
 use Rattle.tables.proofs.Good.{good_place}
 use Rattle.tables.proofs.Rows.{row_length_lem}
 use Rattle.runs.proofs.Positions.{vector_length}
+use Rattle.runs.proofs.Way.{goes_on}
 use Rattle.sending.proofs.Measured.{measured, inside, place_fits}
 use Rattle.sending.proofs.Records.{begins_records, record_more, all_records}
 use Rattle.sending.proofs.inner.way.Run.write_records.Goals as goal
@@ -37,7 +38,7 @@ loop-place-preserved c =
     let run = c.args.self.now in
     let i = c.loop-place in
     let stop = c.next-stop.ensures in (
-      stop.goes_on,
+      goes_on stop.goes_on,
       record_more run.table.now c.args.book.0 run.coefficients.now i.place stop.its_row.0 stop.its_row.1 stop.its_vector i.invariant.1 c.write_at.ensures,
     )
 
