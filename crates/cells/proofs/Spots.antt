@@ -11,7 +11,7 @@ use Rattle.cells.specs.Spots.{SpotIn, page_there, cell_there}
 use Rattle.cells.specs.declared.inner.spot.Spot.{Spot}
 
 module _ (pg : List ℕ) (spot : Spot) (inside : SpotIn pg spot) where
-  page_there_lem : length (page_there pg spot) ≡ page_length spot.position.cells
+  pub page_there_lem : length (page_there pg spot) ≡ page_length spot.position.cells
   page_there_lem = converted_size spot.position.layout layouts.CellByCell spot.position.cells pg inside
 
   pub stays : set_cell (page_there pg spot) spot.position.cell (cell_there pg spot) ≡ page_there pg spot

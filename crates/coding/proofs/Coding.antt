@@ -65,7 +65,7 @@ module _ {m : Numbering} {total : ℕ} {xs : List Float} {magnitudes : List ℕ}
     )
 
     module _ {point : List ℤ} (is_Signed : point ≡ signed_by xs shares) where
-      is_point : point ≡ point_of m.radius.0 xs
+      pub is_point : point ≡ point_of m.radius.0 xs
       is_point = is_Signed ∙ ap (signed_by xs) shares_are
 
       pub indexable : OnShell m.length.0 m.radius.0 point

@@ -34,7 +34,7 @@ unfolding enumeration_in
 usable_in m = m.usable
 
 -- the total is that of the shape field
-total_in_field : (m : Numbering) → total_in m ≡ field_total (size_of (field_in m.selected)) m.length.0 m.radius.0
+pub total_in_field : (m : Numbering) → total_in m ≡ field_total (size_of (field_in m.selected)) m.length.0 m.radius.0
 unfolding enumeration_in
 total_in_field m = total_named_lem m.selected m.length.0 m.radius.0
 

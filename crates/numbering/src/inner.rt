@@ -1,5 +1,7 @@
 // A shell's numbering, by value, and what can be asked of it.
-ghost use Rattle.selectors.specs.Selected.{enumeration_named};
+ghost use Rattle.std.specs.Prelude.{◌≡◌};
+ghost use Rattle.selectors.specs.Selected.{selected_of, enumeration_named};
+ghost use Rattle.tables.specs.Row.{length_of, selector_of};
 ghost use Rattle.tables.specs.Usable.{IsUsable};
 
 use counts::{Field, Length, Radius};
@@ -16,6 +18,26 @@ pub struct Numbering {
     pub length: Length,
     pub radius: Radius,
     pub ghost usable: { IsUsable length.0 radius.0 ((enumeration_named selected).total length.0 radius.0) },
+}
+
+// A shell and an enumeration, usable or not.
+#[derive(Clone, Copy)]
+pub struct Choice {
+    pub selected: Selected,
+    pub length: Length,
+    pub radius: Radius,
+}
+
+// What a row says of the shell of a radius, whatever row and radius are given.
+pub fn of_radius(row: &Row, radius: Radius) -> Choice
+    ensures { (result.length.0 ≡ length_of row.now) × (result.radius.0 ≡ radius.0)
+        × (result.selected ≡ selected_of (selector_of row.now)) }
+{
+    Choice {
+        selected: Selected::from(rows::inner::row::selector(row)),
+        length: rows::inner::row::length(row),
+        radius,
+    }
 }
 
 // An index that was sought and names no point: its shape is empty; or it is past the end, and there are so many.
@@ -38,10 +60,11 @@ impl Numbering {
         requires { IsUsable (length_of row.now) radius.0 (shell_total row.now radius.0) }
         ensures { IsOfRow result row.now radius.0 }
     {
+        let choice = of_radius(row, radius);
         Numbering {
-            selected: Selected::from(rows::inner::row::selector(row)),
-            length: rows::inner::row::length(row),
-            radius,
+            selected: choice.selected,
+            length: choice.length,
+            radius: choice.radius,
         }
     }
 
