@@ -1,4 +1,4 @@
-// Files read into lent room, and texts put on standard output.
+// Files read into lent room, and refusals put on standard output.
 pub mod printing;
 pub mod reading;
 pub mod telling;
